@@ -1,0 +1,4 @@
+pub mod Refusals
+pub mod Links
+pub mod Ranks
+pub mod Pricing

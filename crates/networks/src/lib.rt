@@ -1,0 +1,13 @@
+// Link records and the networks made of them: what a record is, when records are refused, how links rank, what a row
+// of links costs, and which links are closed.
+pub mod links;
+pub mod pricing;
+pub mod ranking;
+pub mod refusals;
+
+pub use links::Link;
+pub use pricing::price;
+pub use refusals::Layer;
+pub use refusals::Refusal;
+pub use refusals::RefusalDisplay;
+pub use refusals::Report;
