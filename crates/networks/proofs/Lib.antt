@@ -1,5 +1,7 @@
 pub mod Counts
+pub mod Faults
 pub mod Injections
+pub mod Marks
 pub mod Order
 pub mod Prices
 pub mod Weights

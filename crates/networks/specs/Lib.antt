@@ -2,3 +2,6 @@ pub mod Refusals
 pub mod Links
 pub mod Ranks
 pub mod Pricing
+pub mod Closures
+pub mod Networks
+pub mod Opening

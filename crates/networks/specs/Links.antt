@@ -1,6 +1,8 @@
 -- What link records say. Assumes nothing.
-use mathlib.Core.List.{List, map}
+use mathlib.Core.Bool.{Bool, true, not, _&&_}
+use mathlib.Core.List.{List, [], _∷_, map}
 use Prim.Native.Nat.{ℕ}
+use lib.Dec.{eqb, ltb}
 use lib.ListN.{getD}
 use Rattle.weights.specs.Scales.{Scale}
 use Rattle.networks.specs.declared.links.Link.{Link}
@@ -8,3 +10,8 @@ use Rattle.networks.specs.declared.links.Link.{Link}
 -- the amount of each link's weight, by the link's number
 abbrev pub weightOf : (s : Scale) {W : Type 0} → (W → s .Amount) → List (Link W) → ℕ → s .Amount
 weightOf s amount links e = getD (map (λ link. amount (link .weight)) links) e (s .zero)
+
+-- both ends of every link are sites, and different ones
+abbrev pub sound : {W : Type 0} → ℕ → List (Link W) → Bool
+sound sites [] = true
+sound sites (link ∷ links) = (ltb (link .from) sites && (ltb (link .to) sites && not (eqb (link .from) (link .to)))) && sound sites links

@@ -1,0 +1,19 @@
+-- What a network holds. Assumes nothing.
+use mathlib.Core.Bool.{Bool}
+use mathlib.Core.List.{List}
+use Prim.Native.Nat.{ℕ}
+use lib.ListN.{take}
+use Rattle.networks.specs.Closures.{closedAt}
+use Rattle.networks.specs.declared.links.Link.{Link}
+use Rattle.networks.specs.declared.networks.Network.{Network}
+
+module _ {K : Type 0} where
+  abbrev pub sitesOf : Network K → ℕ
+  sitesOf n = n .sites
+
+  -- the link records, by number
+  abbrev pub linksOf : Network K → List (Link K)
+  linksOf n = take (n .count) (n .links)
+
+  abbrev pub closedIn : Network K → ℕ → Bool
+  closedIn n e = closedAt (n .closed) e

@@ -1,0 +1,28 @@
+// The record of closed links.
+ghost use Prim.Native.Nat.{ℕ};
+ghost use mathlib.Core.Bool.{false};
+ghost use mathlib.Core.Path.{_≡_};
+ghost use Rattle.networks.specs.Closures.{closedAt};
+
+// Which link numbers are closed. It knows no weights, so that one record serves networks of every kind.
+#[derive(Clone, Copy)]
+pub struct Closed {
+    marks: [bool; 512],
+}
+
+impl Closed {
+    // Every link is open.
+    pub fn none() -> Closed
+        ensures { λ r. ⌜ ((e : ℕ) → closedAt r e ≡ false) ⌝ }
+    {
+        Closed { marks: [false; 512] }
+    }
+
+    // Whether this link is closed; a number that no link has is not.
+    pub fn is_closed(&self, link: u16) -> bool
+        ensures { λ r. ⌜ r ≡ closedAt (now (self .entry)) link ⌝ }
+    {
+        let link = link as usize;
+        link < 512 && self.marks[link]
+    }
+}

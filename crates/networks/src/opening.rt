@@ -1,0 +1,88 @@
+// Opening records as a network, and what a network gives back.
+ghost use Prim.Native.Nat.{ℕ, _≤_};
+ghost use mathlib.Core.Bool.{false};
+ghost use mathlib.Core.Path.{_≡_};
+ghost use lib.ListN.{length, take};
+ghost use Rattle.std.specs.Vec.{made};
+ghost use Rattle.networks.specs.Closures.{closedAt};
+ghost use Rattle.networks.specs.Networks.{sitesOf, linksOf, closedIn};
+ghost use Rattle.networks.specs.Opening.{openRules, linkRules};
+ghost use Rattle.networks.specs.Refusals.{refusalOf, firstOf};
+use crate::closures::Closed;
+use crate::links::Link;
+use crate::networks::Network;
+use crate::refusals::Layer;
+use crate::refusals::Refusal;
+use weights::WeightKind;
+
+impl<K: WeightKind> Network<K> {
+    // A network of these links between so many sites, with every link open.
+    pub fn open(sites: u8, links: &[Link<K>]) -> Result<Network<K>, Refusal>
+        ensures refuses { λ r. ⌜ refusalOf r ≡ firstOf (openRules sites (now (links .entry))) ⌝ }
+        ensures sites { λ r. ⌜ made r (λ n. sitesOf n ≡ sites) ⌝ }
+        ensures links { λ r. ⌜ made r (λ n. linksOf n ≡ now (links .entry)) ⌝ }
+        ensures opens { λ r. ⌜ made r (λ n. (e : ℕ) → closedIn n e ≡ false) ⌝ }
+    {
+        if sites < 1 || sites > 64 {
+            return Err(Refusal::SiteCount(Layer::Network));
+        }
+        if links.len() > 512 {
+            return Err(Refusal::LinkCount(Layer::Network));
+        }
+        check_links(sites, links)?;
+        Ok(Network {
+            sites,
+            count: links.len(),
+            links: stored(links),
+            closed: Closed::none(),
+        })
+    }
+
+    // How many sites there are.
+    pub fn sites(&self) -> u8
+        ensures { λ r. ⌜ r ≡ sitesOf (now (self .entry)) ⌝ }
+    {
+        self.sites
+    }
+
+    // The link records, by number.
+    pub fn links(&self) -> &[Link<K>]
+        ensures { λ r. ⌜ now r ≡ linksOf (now (self .entry)) ⌝ }
+    {
+        let places = &self.links[..];
+        &places[0..self.count]
+    }
+}
+
+// Refuses the first link with an end that is no site, or with one site at both ends.
+fn check_links<K: WeightKind>(sites: u8, links: &[Link<K>]) -> Result<(), Refusal>
+    ensures { λ r. ⌜ refusalOf r ≡ firstOf (linkRules sites 0 (now (links .entry))) ⌝ }
+{
+    for (number, link) in links.iter().enumerate() {
+        let (from, to) = (link.from, link.to);
+        if from >= sites || to >= sites {
+            return Err(Refusal::NoSuchSite(number));
+        }
+        if from == to {
+            return Err(Refusal::SelfLink(number));
+        }
+    }
+    Ok(())
+}
+
+// The links in the first of 512 places.
+fn stored<K: WeightKind>(links: &[Link<K>]) -> [Link<K>; 512]
+    requires { ⌜ length (now links) ≤ 512 ⌝ }
+    ensures { λ r. ⌜ take (length (now (links .entry))) r ≡ now (links .entry) ⌝ }
+{
+    let filler = Link {
+        from: 0,
+        to: 0,
+        weight: K::zero(),
+    };
+    let mut places = [filler; 512];
+    for number in 0..links.len() {
+        places[number] = links[number];
+    }
+    places
+}
