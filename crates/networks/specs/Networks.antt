@@ -6,6 +6,7 @@ use lib.ListN.{take}
 use Rattle.networks.specs.Closures.{closedAt}
 use Rattle.networks.specs.declared.links.Link.{Link}
 use Rattle.networks.specs.declared.networks.Network.{Network}
+use Rattle.networks.specs.declared.orders.RankOrder.{RankOrder}
 
 module _ {K : Type 0} where
   abbrev pub sitesOf : Network K → ℕ
@@ -17,3 +18,7 @@ module _ {K : Type 0} where
 
   abbrev pub closedIn : Network K → ℕ → Bool
   closedIn n e = closedAt (n .closed) e
+
+-- the link numbers in rank order
+abbrev pub numbersOf : RankOrder → List ℕ
+numbersOf r = take (r .count) (r .numbers)

@@ -47,7 +47,8 @@ impl<K: WeightKind> Network<K> {
 
     // The link records, by number.
     pub fn links(&self) -> &[Link<K>]
-        ensures { λ r. ⌜ now r ≡ linksOf (now (self .entry)) ⌝ }
+        ensures value { λ r. ⌜ now r ≡ linksOf (now (self .entry)) ⌝ }
+        ensures few { λ r. ⌜ length (now r) ≤ 512 ⌝ }
     {
         let places = &self.links[..];
         &places[0..self.count]
