@@ -1,1 +1,3 @@
 pub mod Numbers
+pub mod Layout
+pub mod Headers
