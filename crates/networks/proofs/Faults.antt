@@ -7,7 +7,6 @@ use Prim.Native.Nat.{ℕ, _+_, _≤_, _<_}
 use native.Mathlib.Omega.{arith}
 use lib.Dec.{eqb, leb, ltb}
 use lib.ListN.{length, getD, drop}
-use Rattle.std.specs.declared.option.Option.{Option}
 use Rattle.std.specs.declared.option.Option.the-variants.{None, Some}
 use Rattle.std.proofs.shelf.Lists.{at-drop-more, at-drop-all}
 use Rattle.std.proofs.shelf.Tests.{cond-true, cond-false, lt-ltb, le-ltb, eq-eqb, ne-eqb, and-from, and-left, and-right, not-from-true, not-from-false, not-false, and-parts}
@@ -16,7 +15,7 @@ use Rattle.networks.specs.Opening.{linkRules}
 use Rattle.networks.specs.Refusals.{at, firstOf}
 use Rattle.networks.specs.declared.links.Link.{Link}
 use Rattle.networks.specs.declared.refusals.Layer.the-variants.{Network}
-use Rattle.networks.specs.declared.refusals.Report.{Report}
+use Rattle.networks.proofs.Rules.{passed}
 
 module _ {W : Type 0} (sites number : ℕ) (links : List (Link W)) (link : Link W) (inside : number < length links) (read : link ≡ getD links number link) where
   -- the rules from this link on: its own two, and then those of the others
@@ -47,11 +46,6 @@ module _ {W : Type 0} (sites number : ℕ) (links : List (Link W)) (link : Link 
 
 pub links-end : {W : Type 0} (sites number : ℕ) (links : List (Link W)) → length links ≤ number → firstOf (linkRules sites number (drop number links)) ≡ None
 links-end sites number links l = at-drop-all (λ rest. firstOf (linkRules sites number rest)) links number l
-
--- what no rule refuses
-passed : (t : Bool) (r : Report) (rest : Option Report) → cond t (Some r) rest ≡ None → (t ≡ false) × (rest ≡ None)
-passed true r rest e = absurd (let z : _≡_ {A = ℕ} 0 1 = cc in omega arith)
-passed false r rest e = (refl, e)
 
 -- links that no rule refuses are sound
 pub sound-links : {W : Type 0} (sites number : ℕ) (links : List (Link W)) → firstOf (linkRules sites number links) ≡ None → sound sites links ≡ true

@@ -4,4 +4,5 @@ pub mod Injections
 pub mod Marks
 pub mod Order
 pub mod Prices
+pub mod Rules
 pub mod Weights

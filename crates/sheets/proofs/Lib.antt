@@ -1,2 +1,4 @@
 pub mod BigEndian
 pub mod Records
+pub mod Fields
+pub mod Whole
