@@ -2,3 +2,4 @@ pub mod BigEndian
 pub mod Records
 pub mod Fields
 pub mod Whole
+pub mod Places

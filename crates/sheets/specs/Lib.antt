@@ -2,3 +2,4 @@ pub mod Numbers
 pub mod Layout
 pub mod Headers
 pub mod Reading
+pub mod Writing

@@ -2,9 +2,11 @@
 pub mod kinds;
 mod reader;
 pub mod reading;
+pub mod writing;
 
 pub use kinds::CrossedMetresSheet;
 pub use kinds::MetresSheet;
 pub use kinds::SheetKind;
 pub use reading::Counts;
 pub use reading::read;
+pub use writing::write;
