@@ -3,3 +3,4 @@ pub mod Records
 pub mod Fields
 pub mod Whole
 pub mod Places
+pub mod Again

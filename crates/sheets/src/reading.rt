@@ -3,9 +3,11 @@ ghost use Prim.Native.Nat.{ℕ};
 ghost use mathlib.Core.Path.{_≡_};
 ghost use lib.ListN.{length, take, drop};
 ghost use Rattle.std.specs.Vec.{made, refused};
+ghost use Rattle.std.specs.declared.option.Option.the-variants.{None};
 ghost use Rattle.networks.specs.Refusals.{refusalOf, firstOf};
 ghost use Rattle.sheets.specs.Layout.{sheetOf};
 ghost use Rattle.sheets.specs.Reading.{readRules, fieldRules};
+ghost use Rattle.sheets.specs.Writing.{writeRules};
 use crate::kinds::SheetKind;
 use crate::reader::Header;
 use crate::reader::take_header;
@@ -27,6 +29,8 @@ pub fn read<K: SheetKind>(sheet: &[u8], links: &mut [Link<K>]) -> Result<Counts,
     ensures reads { λ r. ⌜ made r (λ n. sheetOf letter width bytes (n .sites) (take (n .links) (now (links .exit))) ≡ now (sheet .entry)) ⌝ }
     ensures leaves { λ r. ⌜ made r (λ n. drop (n .links) (now (links .exit)) ≡ drop (n .links) (now (links .entry))) ⌝ }
     ensures keeps { λ r. ⌜ refused r (λ _. now (links .exit) ≡ now (links .entry)) ⌝ }
+    // What was read is written again, into as many bytes.
+    ensures accepted { λ r. ⌜ made r (λ n. firstOf (writeRules width (n .sites) (length (take (n .links) (now (links .exit)))) (length (now (sheet .entry)))) ≡ None) ⌝ }
 {
     let Some((header, mut records)) = take_header(sheet) else {
         return Err(Refusal::ShortSheet(sheet.len()));

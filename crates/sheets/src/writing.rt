@@ -5,9 +5,11 @@ ghost use mathlib.Core.Path.{_≡_};
 ghost use lib.ListN.{length, drop};
 ghost use Rattle.std.specs.Joined.{joined};
 ghost use Rattle.std.specs.Vec.{made, refused};
+ghost use Rattle.std.specs.declared.option.Option.the-variants.{None};
 ghost use Rattle.networks.specs.Refusals.{refusalOf, firstOf};
 ghost use Rattle.sheets.specs.Layout.{recordOf, sheetOf};
 ghost use Rattle.sheets.specs.Numbers.{be16, be32};
+ghost use Rattle.sheets.specs.Reading.{readRules};
 ghost use Rattle.sheets.specs.Writing.{writeRules};
 use crate::kinds::SheetKind;
 use networks::Layer;
@@ -21,6 +23,9 @@ pub fn write<K: SheetKind>(sites: u8, links: &[Link<K>], sheet: &mut [u8]) -> Re
     ensures len { λ r. ⌜ made r (λ n. n ≡ length (sheetOf letter width bytes sites (now (links .entry)))) ⌝ }
     ensures writes { λ r. ⌜ made r (λ n. now (sheet .exit) ≡ sheetOf letter width bytes sites (now (links .entry)) ++ drop n (now (sheet .entry))) ⌝ }
     ensures keeps { λ r. ⌜ refused r (λ _. now (sheet .exit) ≡ now (sheet .entry)) ⌝ }
+    // What is written is read again, by whoever has room for the links, and no other links are written so.
+    ensures accepted { λ r. ⌜ made r (λ _. (room : ℕ) → length (now (links .entry)) ≤ room → firstOf (readRules letter width (sheetOf letter width bytes sites (now (links .entry))) room) ≡ None) ⌝ }
+    ensures alone { λ r. ⌜ made r (λ _. (n : ℕ) (others : List (Link K)) → sheetOf letter width bytes n others ≡ sheetOf letter width bytes sites (now (links .entry)) → (n ≡ sites) × (others ≡ now (links .entry))) ⌝ }
 {
     if sites < 1 || sites > 64 {
         return Err(Refusal::SiteCount(Layer::Network));

@@ -1,13 +1,15 @@
 use mathlib.Core.Path.{_≡_, refl, sym, ap, _∙_}
+use mathlib.Core.List.{_++_}
 use Prim.Native.Nat.{_+_, _*_, _-_}
 use native.Mathlib.Omega.{arith}
 use lib.ListN.{length, take, drop}
 use Rattle.std.specs.declared.option.Option.the-variants.{None}
-use Rattle.std.proofs.shelf.Lists.{length-take-le, length-drop, drop-at}
+use Rattle.std.proofs.shelf.Lists.{length-take-le, length-drop, drop-at, take-at}
 use Rattle.std.proofs.shelf.Tests.{cond-false, le-ltb}
 use Rattle.networks.specs.Refusals.{firstOf}
 use Rattle.sheets.specs.Reading.{fieldRules}
 use Rattle.sheets.proofs.Fields.{Sound, sound-fields}
+use Rattle.sheets.proofs.Again.{read-accepted}
 use Rattle.sheets.proofs.Whole.{read-whole}
 use Rattle.sheets.proofs.reading.read.Needs as need
 
@@ -44,4 +46,5 @@ returns g c =
         (λ i. omega (arith, c .typed .sheet i)) taken sound many (c .fill .ensures);
       leaves = drop-at filled _ (h .links) many ∙ ap (λ n. drop n links) (omega arith);
       keeps = tt;
+      accepted = read-accepted (k .letter) (k .width) (length sheet) (length links) h (take (h .links) (filled ++ _)) (ap length (take-at filled _ (h .links) many) ∙ many) (taken .long) sound;
     }

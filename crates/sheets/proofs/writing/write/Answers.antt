@@ -9,6 +9,7 @@ use Rattle.std.proofs.shelf.Tests.{cond-false, not-from-true, and-from, le-leb,
 use Rattle.networks.specs.declared.links.Link.{Link}
 use Rattle.sheets.specs.Layout.{recordOf}
 use Rattle.sheets.specs.Numbers.{be16, be32}
+use Rattle.sheets.proofs.Again.{sheet-accepted, sheet-alone}
 use Rattle.sheets.proofs.Places.{front-and-middle, length-joined}
 use Rattle.sheets.proofs.writing.write.Needs as need
 
@@ -35,4 +36,6 @@ returns g c =
         ∙ ap (λ xs. (header ++ xs) ++ drop (9 + (size - 9)) sheet) (c .put-records .ensures)
         ∙ ap (λ n. (header ++ records) ++ drop n sheet) (omega arith);
       keeps = tt;
+      accepted = λ room fits. sheet-accepted (k .letter) (k .width) (k .bytes) sites links room wide (c .if-sites-lt1 .left) (c .if-sites-gt64 .left) (c .if-count-gt512 .left) fits;
+      alone = λ n others same-bytes. sheet-alone (k .letter) (k .width) (k .bytes) (g .K·SheetKind·met .wide) (g .K·SheetKind·met .determined) n sites others links same-bytes;
     }
