@@ -3,3 +3,4 @@ pub mod Layout
 pub mod Headers
 pub mod Reading
 pub mod Writing
+pub mod Loading

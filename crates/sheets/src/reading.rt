@@ -1,5 +1,5 @@
 // Reading a sheet into link records.
-ghost use Prim.Native.Nat.{ℕ};
+ghost use Prim.Native.Nat.{ℕ, _≤_};
 ghost use mathlib.Core.Path.{_≡_};
 ghost use lib.ListN.{length, take, drop};
 ghost use Rattle.std.specs.Vec.{made, refused};
@@ -27,6 +27,7 @@ pub struct Counts {
 pub fn read<K: SheetKind>(sheet: &[u8], links: &mut [Link<K>]) -> Result<Counts, Refusal>
     ensures refuses { λ r. ⌜ refusalOf r ≡ firstOf (readRules letter width (now (sheet .entry)) (length (now (links .entry)))) ⌝ }
     ensures reads { λ r. ⌜ made r (λ n. sheetOf letter width bytes (n .sites) (take (n .links) (now (links .exit))) ≡ now (sheet .entry)) ⌝ }
+    ensures fills { λ r. ⌜ made r (λ n. n .links ≤ length (now (links .exit))) ⌝ }
     ensures leaves { λ r. ⌜ made r (λ n. drop (n .links) (now (links .exit)) ≡ drop (n .links) (now (links .entry))) ⌝ }
     ensures keeps { λ r. ⌜ refused r (λ _. now (links .exit) ≡ now (links .entry)) ⌝ }
     // What was read is written again, into as many bytes.

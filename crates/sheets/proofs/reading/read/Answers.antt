@@ -2,9 +2,10 @@ use mathlib.Core.Path.{_≡_, refl, sym, ap, _∙_}
 use mathlib.Core.List.{_++_}
 use Prim.Native.Nat.{_+_, _*_, _-_}
 use native.Mathlib.Omega.{arith}
+use borrow.Rule.Slice.PartMut.{postOf}
 use lib.ListN.{length, take, drop}
 use Rattle.std.specs.declared.option.Option.the-variants.{None}
-use Rattle.std.proofs.shelf.Lists.{length-take-le, length-drop, drop-at, take-at}
+use Rattle.std.proofs.shelf.Lists.{length-take-le, length-drop, drop-at, take-at, length-append}
 use Rattle.std.proofs.shelf.Tests.{cond-false, le-ltb}
 use Rattle.networks.specs.Refusals.{firstOf}
 use Rattle.sheets.specs.Reading.{fieldRules}
@@ -44,6 +45,7 @@ returns g c =
       refuses = sym (cond-false _ _ _ (le-ltb (length sheet) 9 (taken .long)) ∙ ap (λ x. firstOf (fieldRules (k .letter) (k .width) (length sheet) (length links) x)) (sym (taken .fields)) ∙ none);
       reads = read-whole (k .letter) (k .width) (k .bytes) sheet (c .in-Some .records .bytes .now) (c .in-Some .records .offset) (length sheet) (length links) h filled _
         (λ i. omega (arith, c .typed .sheet i)) taken sound many (c .fill .ensures);
+      fills = omega (arith, length-append filled (postOf 0 (h .links - 0) links));
       leaves = drop-at filled _ (h .links) many ∙ ap (λ n. drop n links) (omega arith);
       keeps = tt;
       accepted = read-accepted (k .letter) (k .width) (length sheet) (length links) h (take (h .links) (filled ++ _)) (ap length (take-at filled _ (h .links) many) ∙ many) (taken .long) sound;
