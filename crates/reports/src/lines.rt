@@ -1,0 +1,96 @@
+// Answering a sheet, and the answer as a line.
+ghost use Prim.Native.Nat.{ℕ};
+ghost use mathlib.Core.Path.{_≡_};
+ghost use Rattle.std.specs.declared.option.Option.the-variants.{Some};
+ghost use Rattle.reports.specs.Answers.{kindOf, Answers, AnswersAs, lineOfAnswer, toldOf};
+ghost use Rattle.reports.specs.declared.answers.Kind.the-variants.{Metres as metres, CrossedMetres as crossed};
+use crate::answers::Answer;
+use crate::answers::Kind;
+use networks::Link;
+use networks::Network;
+use networks::Refusal;
+use networks::RefusalDisplay;
+use sheets::CrossedMetresSheet;
+use sheets::MetresSheet;
+use sheets::SheetKind;
+use sheets::load;
+use std::fmt;
+use weights::Crossings;
+use weights::CrossingsKind;
+use weights::Metres;
+use weights::MetresKind;
+use weights::Pair;
+use weights::PairKind;
+
+// The kind that a sheet is read as: P where its byte 5 says so, and W otherwise.
+pub fn kind_of(sheet: &[u8]) -> Kind
+    ensures { λ r. ⌜ r ≡ kindOf (now (sheet .entry)) ⌝ }
+{
+    if sheet.len() > 5 && sheet[5] == b'P' {
+        Kind::CrossedMetres
+    } else {
+        Kind::Metres
+    }
+}
+
+// Loads the sheet as a network of the kind that it is read as, and answers its sites and links, or the refusal.
+pub fn answer(sheet: &[u8]) -> Answer
+    ensures { λ r. ⌜ Answers (now (sheet .entry)) r ⌝ }
+{
+    match kind_of(sheet) {
+        Kind::Metres => answer_metres(sheet),
+        Kind::CrossedMetres => answer_crossed(sheet),
+    }
+}
+
+fn answer_metres(sheet: &[u8]) -> Answer
+    ensures { λ r. ⌜ AnswersAs metres (now (sheet .entry)) r ⌝ }
+{
+    let blank = Link {
+        from: 0,
+        to: 0,
+        weight: Metres(0),
+    };
+    let mut links = [blank; 512];
+    told(load(sheet, &mut links))
+}
+
+fn answer_crossed(sheet: &[u8]) -> Answer
+    ensures { λ r. ⌜ AnswersAs crossed (now (sheet .entry)) r ⌝ }
+{
+    let blank = Link {
+        from: 0,
+        to: 0,
+        weight: Pair {
+            first: Crossings(0),
+            second: Metres(0),
+        },
+    };
+    let mut links = [blank; 512];
+    told(load(sheet, &mut links))
+}
+
+// What is answered where loading gave this.
+fn told<K: SheetKind>(loaded: Result<Network<K>, Refusal>) -> Answer
+    ensures { λ r. ⌜ r ≡ toldOf loaded ⌝ }
+{
+    match loaded {
+        Ok(network) => Answer::Sound {
+            sites: network.sites(),
+            links: network.links().len(),
+        },
+        Err(refusal) => Answer::Refused(refusal),
+    }
+}
+
+// The line that is printed of an answer.
+pub impl fmt::Display for Answer as AnswerDisplay {
+    ghost shown = { λ x. Some (lineOfAnswer x) };
+
+    fn fmt<W: fmt::Write>(&self, f: &mut fmt::Formatter<W>) -> fmt::Result {
+        match *self {
+            Answer::Sound { sites, links } => write!(f, "sites {sites} links {links}"),
+            Answer::Refused(refusal) => write!(f, "{refusal}"),
+        }
+    }
+}
