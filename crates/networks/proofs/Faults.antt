@@ -27,10 +27,10 @@ module _ {W : Type 0} (sites number : ℕ) (links : List (Link W)) (link : Link 
   pub outside : (sites ≤ link .from) ⊎ (sites ≤ link .to) → firstOf (linkRules sites number (drop number links)) ≡ Some (at Network 8 number)
   outside h =
       let both : (ltb (link .from) sites && ltb (link .to) sites) ≡ false =
-        ⊎-elim
-        (λ a. and-left (ltb (link .from) sites) (ltb (link .to) sites) (le-ltb (link .from) sites a))
-        (λ b. and-right (ltb (link .from) sites) (ltb (link .to) sites) (le-ltb (link .to) sites b))
-        h in
+      ⊎-elim
+      (λ a. and-left (ltb (link .from) sites) (ltb (link .to) sites) (le-ltb (link .from) sites a))
+      (λ b. and-right (ltb (link .from) sites) (ltb (link .to) sites) (le-ltb (link .to) sites b))
+      h in
       here ∙ cond-true _ _ _ (not-from-false _ both)
 
   -- both ends are sites

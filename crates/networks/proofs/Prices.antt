@@ -26,17 +26,17 @@ module _ (m index : ℕ) (row : List ℕ) where
   pub price-stops : index < length row → (63 ≤ index) ⊎ (m ≤ getD row index 0) → firstOf (priceRules m index (drop index row)) ≡ Some (at Network 14 index)
   price-stops l h =
       let test : faulty ≡ true =
-        ⊎-elim
-        (λ a. or-left (leb 63 index) (not (ltb (getD row index 0) m)) (le-leb 63 index a))
-        (λ b. or-right (leb 63 index) (not (ltb (getD row index 0) m)) (not-from-false (ltb (getD row index 0) m) (le-ltb (getD row index 0) m b)))
-        h in
+      ⊎-elim
+      (λ a. or-left (leb 63 index) (not (ltb (getD row index 0) m)) (le-leb 63 index a))
+      (λ b. or-right (leb 63 index) (not (ltb (getD row index 0) m)) (not-from-false (ltb (getD row index 0) m) (le-ltb (getD row index 0) m b)))
+      h in
       here l ∙ cond-true faulty _ _ test
 
   pub price-goes : index < length row → index < 63 → getD row index 0 < m → firstOf (priceRules m index (drop index row)) ≡ firstOf (priceRules m (index + 1) (drop (index + 1) row))
   price-goes l a b =
       let test : faulty ≡ false =
-        or-from (leb 63 index) (not (ltb (getD row index 0) m)) (lt-leb 63 index a)
-        (not-from-true (ltb (getD row index 0) m) (lt-ltb (getD row index 0) m b)) in
+      or-from (leb 63 index) (not (ltb (getD row index 0) m)) (lt-leb 63 index a)
+      (not-from-true (ltb (getD row index 0) m) (lt-ltb (getD row index 0) m b)) in
       here l ∙ cond-false faulty _ _ test
 
   pub price-ends : length row ≤ index → firstOf (priceRules m index (drop index row)) ≡ None
@@ -47,7 +47,7 @@ module _ (s : Scale) (laws : Lawful s) (w : ℕ → s .Amount) where
   pub sum-more : (row : List ℕ) (index : ℕ) (old new a : s .Amount) → index < length row → old ≡ sumOf s (map w (take index row)) → new ≡ s .add old a → w (getD row index 0) ≡ a → new ≡ sumOf s (map w (take (index + 1) row))
   sum-more row index old new a l front adds weight =
       let longer : sumOf s (map w (take (index + 1) row)) ≡ s .add (sumOf s (map w (take index row))) (w (getD row index 0)) =
-        ap (λ xs. sumOf s (map w xs)) (take-more row index 0 l)
-        ∙ ap (sumOf s) (map-push w (take index row) (getD row index 0))
-        ∙ sum-push s laws (map w (take index row)) (w (getD row index 0)) in
+      ap (λ xs. sumOf s (map w xs)) (take-more row index 0 l)
+      ∙ ap (sumOf s) (map-push w (take index row) (getD row index 0))
+      ∙ sum-push s laws (map w (take index row)) (w (getD row index 0)) in
       cc

@@ -15,7 +15,9 @@ impl Closed {
     pub fn none() -> Closed
         ensures { λ r. ⌜ ((e : ℕ) → closedAt r e ≡ false) ⌝ }
     {
-        Closed { marks: [false; 512] }
+        Closed {
+            marks: [false; 512],
+        }
     }
 
     // Whether this link is closed; a number that no link has is not.

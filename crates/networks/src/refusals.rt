@@ -103,7 +103,11 @@ impl Refusal {
             Refusal::NotOnRow => (Layer::Walk, 17, 0),
             Refusal::NotInRow(link) => (Layer::Walk, 18, link as usize),
         };
-        Report { layer, number, place }
+        Report {
+            layer,
+            number,
+            place,
+        }
     }
 }
 

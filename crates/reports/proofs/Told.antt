@@ -32,7 +32,7 @@ module _ (letter width : ℕ) {K : Type 0} (bytes : K → List ℕ) (sheet : Lis
     links = h .links;
     reads = h .reads;
     answers = subst (λ (o : Option Report). Cases o (toldOf (Ok n) ≡ Sound (h .sites) (length (h .links))) (RefusedWith (toldOf (Ok n)))) (h .refuses)
-      (let sites = h .opens .0 in let links = ap length (h .opens .1) in cc);
+        (let sites = h .opens .0 in let links = ap length (h .opens .1) in cc);
   }
   opened (Err e) h = record {
     sites = h .sites;
@@ -48,5 +48,5 @@ module _ (letter width : ℕ) {K : Type 0} (bytes : K → List ℕ) (sheet : Lis
   pub told-answers : (r : Result (Network K) Refusal) → length before ≡ 512 → Cases (firstOf (readRules letter width sheet (length before))) (Opened letter width bytes sheet before after r) (λ report. (refusalOf r ≡ Some report) × (after ≡ before)) → AnswersKind letter width bytes sheet (toldOf r)
   told-answers r room h =
       let all : Cases (firstOf (readRules letter width sheet (length before))) (Opens letter width bytes sheet (toldOf r)) (RefusedWith (toldOf r)) =
-        by-verdict r (firstOf (readRules letter width sheet (length before))) h in
+      by-verdict r (firstOf (readRules letter width sheet (length before))) h in
       subst (λ (n : ℕ). Cases (firstOf (readRules letter width sheet n)) (Opens letter width bytes sheet (toldOf r)) (RefusedWith (toldOf r))) room all

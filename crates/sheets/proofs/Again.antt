@@ -90,9 +90,9 @@ module _ (letter width : ℕ) {W : Type 0} (bytes : W → List ℕ) where
         let wx : length (recordOf bytes x) ≡ 2 + width = (let a = wide (x .weight) in omega arith) in
         let wy : length (recordOf bytes y) ≡ 2 + width = (let a = wide (y .weight) in omega arith) in
         let front : recordOf bytes x ≡ recordOf bytes y =
-          sym (take-at (recordOf bytes x) (joined (recordOf bytes) xs) (2 + width) wx) ∙ ap (take (2 + width)) e ∙ take-at (recordOf bytes y) (joined (recordOf bytes) ys) (2 + width) wy in
+        sym (take-at (recordOf bytes x) (joined (recordOf bytes) xs) (2 + width) wx) ∙ ap (take (2 + width)) e ∙ take-at (recordOf bytes y) (joined (recordOf bytes) ys) (2 + width) wy in
         let back : joined (recordOf bytes) xs ≡ joined (recordOf bytes) ys =
-          sym (drop-at (recordOf bytes x) (joined (recordOf bytes) xs) (2 + width) wx) ∙ ap (drop (2 + width)) e ∙ drop-at (recordOf bytes y) (joined (recordOf bytes) ys) (2 + width) wy in
+        sym (drop-at (recordOf bytes x) (joined (recordOf bytes) xs) (2 + width) wx) ∙ ap (drop (2 + width)) e ∙ drop-at (recordOf bytes y) (joined (recordOf bytes) ys) (2 + width) wy in
         let one = record-alone x y front in
         let more = records-alone xs ys back in
         cc

@@ -14,8 +14,8 @@ record-read xs o w l =
     let more : 2 + w ≡ suc (suc w) = omega arith in
     sym
     (ap (λ n. take n (drop o xs)) more
-      ∙ ap (take (suc (suc w))) (drop-more xs o 0 (omega arith))
-      ∙ ap (λ rest. getD xs o 0 ∷ take (suc w) rest) (drop-more xs (o + 1) 0 (omega arith)))
+    ∙ ap (take (suc (suc w))) (drop-more xs o 0 (omega arith))
+    ∙ ap (λ rest. getD xs o 0 ∷ take (suc w) rest) (drop-more xs (o + 1) 0 (omega arith)))
 
 pub take-plus : {A : Type 0} (m n : ℕ) (xs : List A) → take (m + n) xs ≡ take m xs ++ take n (drop m xs)
 take-plus m n xs =

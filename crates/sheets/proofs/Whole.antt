@@ -18,11 +18,11 @@ use Rattle.sheets.proofs.BigEndian.{be16-at, be32-at}
 parts : (sheet : List ℕ) → 9 ≤ length sheet → take 4 sheet ++ (getD sheet 4 0 ∷ getD sheet 5 0 ∷ getD sheet 6 0 ∷ (take 2 (drop 7 sheet) ++ drop 9 sheet)) ≡ sheet
 parts sheet l =
     let after : take 2 (drop 7 sheet) ++ drop 9 sheet ≡ drop 7 sheet =
-      ap (λ back. take 2 (drop 7 sheet) ++ back) (sym (drop-drop 2 7 sheet)) ∙ take-append-drop 2 (drop 7 sheet) in
+    ap (λ back. take 2 (drop 7 sheet) ++ back) (sym (drop-drop 2 7 sheet)) ∙ take-append-drop 2 (drop 7 sheet) in
     let middle : drop 4 sheet ≡ getD sheet 4 0 ∷ getD sheet 5 0 ∷ getD sheet 6 0 ∷ drop 7 sheet =
-      drop-more sheet 4 0 (omega arith)
-      ∙ ap (λ rest. getD sheet 4 0 ∷ rest) (drop-more sheet 5 0 (omega arith))
-      ∙ ap (λ rest. getD sheet 4 0 ∷ getD sheet 5 0 ∷ rest) (drop-more sheet 6 0 (omega arith)) in
+    drop-more sheet 4 0 (omega arith)
+    ∙ ap (λ rest. getD sheet 4 0 ∷ rest) (drop-more sheet 5 0 (omega arith))
+    ∙ ap (λ rest. getD sheet 4 0 ∷ getD sheet 5 0 ∷ rest) (drop-more sheet 6 0 (omega arith)) in
     ap (λ rest. take 4 sheet ++ (getD sheet 4 0 ∷ getD sheet 5 0 ∷ getD sheet 6 0 ∷ rest)) after
     ∙ ap (λ rest. take 4 sheet ++ rest) (sym middle)
     ∙ take-append-drop 4 sheet
@@ -32,9 +32,9 @@ module _ (letter width : ℕ) {W : Type 0} (bytes : W → List ℕ) (sheet : Lis
   pub sheet-from-fields : ((k : ℕ) → getD sheet k 0 < 256) → 9 ≤ length sheet → lengthField sheet ≡ 5 + length links * (2 + width) → getD sheet 4 0 ≡ 1 → getD sheet 5 0 ≡ letter → linksField sheet ≡ length links → joined (recordOf bytes) links ≡ drop 9 sheet → sheetOf letter width bytes (getD sheet 6 0) links ≡ sheet
   sheet-from-fields small long counted version kind many records =
       let first : be32 (5 + length links * (2 + width)) ≡ take 4 sheet =
-        ap be32 (sym counted) ∙ be32-at sheet 0 small (lengthField sheet) (omega arith) refl in
+      ap be32 (sym counted) ∙ be32-at sheet 0 small (lengthField sheet) (omega arith) refl in
       let count : be16 (length links) ≡ take 2 (drop 7 sheet) =
-        ap be16 (sym many) ∙ be16-at sheet 7 small (linksField sheet) (omega arith) refl in
+      ap be16 (sym many) ∙ be16-at sheet 7 small (linksField sheet) (omega arith) refl in
       ap (λ front. front ++ (1 ∷ letter ∷ getD sheet 6 0 ∷ (be16 (length links) ++ joined (recordOf bytes) links))) first
       ∙ ap (λ v. take 4 sheet ++ (v ∷ letter ∷ getD sheet 6 0 ∷ (be16 (length links) ++ joined (recordOf bytes) links))) (sym version)
       ∙ ap (λ k. take 4 sheet ++ (getD sheet 4 0 ∷ k ∷ getD sheet 6 0 ∷ (be16 (length links) ++ joined (recordOf bytes) links))) (sym kind)
@@ -47,11 +47,11 @@ pub read-whole : (letter width : ℕ) {W : Type 0} (bytes : W → List ℕ) (she
 read-whole letter width bytes sheet rest offset size room h filled behind small taken sound many records =
     let fields = taken .fields in
     let counted : lengthField sheet ≡ 5 + length filled * (2 + width) =
-      sym (ap (λ (x : Header). x .length) fields) ∙ sound .records ∙ ap (λ n. 5 + n * (2 + width)) (sym many) in
+    sym (ap (λ (x : Header). x .length) fields) ∙ sound .records ∙ ap (λ n. 5 + n * (2 + width)) (sym many) in
     ap (λ s. sheetOf letter width bytes s (take (h .links) (filled ++ behind))) (ap (λ (x : Header). x .sites) fields)
     ∙ ap (sheetOf letter width bytes (getD sheet 6 0)) (take-at filled behind (h .links) many)
     ∙ sheet-from-fields letter width bytes sheet filled small (taken .long) counted
-      (sym (ap (λ (x : Header). x .version) fields) ∙ sound .version)
-      (sym (ap (λ (x : Header). x .kind) fields) ∙ sound .kind)
-      (sym (ap (λ (x : Header). x .links) fields) ∙ sym many)
-      (records ∙ taken .after)
+    (sym (ap (λ (x : Header). x .version) fields) ∙ sound .version)
+    (sym (ap (λ (x : Header). x .kind) fields) ∙ sound .kind)
+    (sym (ap (λ (x : Header). x .links) fields) ∙ sym many)
+    (records ∙ taken .after)

@@ -50,9 +50,9 @@ module _ (s t : Scale) (S : Lawful s) (T : Lawful t) where
   total a b =
       ⊎-elim
       (λ p. ⊎-elim
-        (λ q. ⊎-elim (λ r. inl (equal-true _ _ _ p q r)) (λ r. inr (equal-true _ _ _ q p r)) (T .total (a .1) (b .1)))
-        (λ q. inl (less-true _ _ (t .le (a .1) (b .1)) p q))
-        (cases-bool (s .le (b .0) (a .0))))
+      (λ q. ⊎-elim (λ r. inl (equal-true _ _ _ p q r)) (λ r. inr (equal-true _ _ _ q p r)) (T .total (a .1) (b .1)))
+      (λ q. inl (less-true _ _ (t .le (a .1) (b .1)) p q))
+      (cases-bool (s .le (b .0) (a .0))))
       (λ p. inr (less-true _ _ (t .le (b .1) (a .1)) (other s S (a .0) (b .0) p) p))
       (cases-bool (s .le (a .0) (b .0)))
 
@@ -64,38 +64,38 @@ module _ (s t : Scale) (S : Lawful s) (T : Lawful t) where
   antisym a b h k =
       ⊎-elim
       (λ x. ⊎-elim
-        (λ y. both-sides a b (S .antisym (a .0) (b .0) (x .0) (x .1)) (T .antisym (a .1) (b .1) (x .2) (y .2)))
-        (λ y. absurd (both-ways (s .le (a .0) (b .0)) (y .1) (x .0)))
-        (at-most b a k))
+      (λ y. both-sides a b (S .antisym (a .0) (b .0) (x .0) (x .1)) (T .antisym (a .1) (b .1) (x .2) (y .2)))
+      (λ y. absurd (both-ways (s .le (a .0) (b .0)) (y .1) (x .0)))
+      (at-most b a k))
       (λ x. ⊎-elim
-        (λ y. absurd (both-ways (s .le (b .0) (a .0)) (x .1) (y .0)))
-        (λ y. absurd (both-ways (s .le (b .0) (a .0)) (x .1) (y .0)))
-        (at-most b a k))
+      (λ y. absurd (both-ways (s .le (b .0) (a .0)) (x .1) (y .0)))
+      (λ y. absurd (both-ways (s .le (b .0) (a .0)) (x .1) (y .0)))
+      (at-most b a k))
       (at-most a b h)
 
   trans : (a b c : pairs s t .Amount) → le a b ≡ true → le b c ≡ true → le a c ≡ true
   trans a b c h k =
       ⊎-elim
       (λ x. ⊎-elim
-        (λ y. equal-true _ _ _ (S .trans (a .0) (b .0) (c .0) (x .0) (y .0)) (S .trans (c .0) (b .0) (a .0) (y .1) (x .1))
-          (T .trans (a .1) (b .1) (c .1) (x .2) (y .2)))
-        (λ y. less-true _ _ (t .le (a .1) (c .1)) (S .trans (a .0) (b .0) (c .0) (x .0) (y .0))
-          (under s S (a .0) (b .0) (c .0) (x .0) (y .1)))
-        (at-most b c k))
+      (λ y. equal-true _ _ _ (S .trans (a .0) (b .0) (c .0) (x .0) (y .0)) (S .trans (c .0) (b .0) (a .0) (y .1) (x .1))
+      (T .trans (a .1) (b .1) (c .1) (x .2) (y .2)))
+      (λ y. less-true _ _ (t .le (a .1) (c .1)) (S .trans (a .0) (b .0) (c .0) (x .0) (y .0))
+      (under s S (a .0) (b .0) (c .0) (x .0) (y .1)))
+      (at-most b c k))
       (λ x. ⊎-elim
-        (λ y. less-true _ _ (t .le (a .1) (c .1)) (S .trans (a .0) (b .0) (c .0) (x .0) (y .0))
-          (below s S (a .0) (b .0) (c .0) (x .1) (y .0)))
-        (λ y. less-true _ _ (t .le (a .1) (c .1)) (S .trans (a .0) (b .0) (c .0) (x .0) (y .0))
-          (below s S (a .0) (b .0) (c .0) (x .1) (y .0)))
-        (at-most b c k))
+      (λ y. less-true _ _ (t .le (a .1) (c .1)) (S .trans (a .0) (b .0) (c .0) (x .0) (y .0))
+      (below s S (a .0) (b .0) (c .0) (x .1) (y .0)))
+      (λ y. less-true _ _ (t .le (a .1) (c .1)) (S .trans (a .0) (b .0) (c .0) (x .0) (y .0))
+      (below s S (a .0) (b .0) (c .0) (x .1) (y .0)))
+      (at-most b c k))
       (at-most a b h)
 
   strict : (a b c : pairs s t .Amount) → le b a ≡ false → le (pairs s t .add b c) (pairs s t .add a c) ≡ false
   strict a b c h =
       ⊎-elim
       (λ x. let same = S .antisym (b .0) (a .0) (x .0) (x .1) in
-            let more = ap (λ (y : s .Amount). s .add y (c .0)) same in
-            equal-false _ _ _ (level s S _ _ more) (level s S _ _ (sym more)) (T .strict (a .1) (b .1) (c .1) (x .2)))
+      let more = ap (λ (y : s .Amount). s .add y (c .0)) same in
+      equal-false _ _ _ (level s S _ _ more) (level s S _ _ (sym more)) (T .strict (a .1) (b .1) (c .1) (x .2)))
       (λ x. more-false _ _ (t .le (t .add (b .1) (c .1)) (t .add (a .1) (c .1))) (S .strict (a .0) (b .0) (c .0) x))
       (when-false (s .le (b .0) (a .0)) (s .le (a .0) (b .0)) (t .le (b .1) (a .1)) h)
 

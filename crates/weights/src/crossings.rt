@@ -46,7 +46,10 @@ pub impl WeightKind for Crossings as CrossingsKind {
     }
 
     fn nothing() -> CrossingsTotal {
-        CrossingsTotal { count: 0, crossings: 0 }
+        CrossingsTotal {
+            count: 0,
+            crossings: 0,
+        }
     }
 
     fn count(total: &CrossingsTotal) -> u8 {

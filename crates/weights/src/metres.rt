@@ -46,7 +46,10 @@ pub impl WeightKind for Metres as MetresKind {
     }
 
     fn nothing() -> MetresTotal {
-        MetresTotal { count: 0, metres: 0 }
+        MetresTotal {
+            count: 0,
+            metres: 0,
+        }
     }
 
     fn count(total: &MetresTotal) -> u8 {

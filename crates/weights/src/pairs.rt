@@ -14,23 +14,23 @@ pub struct Pair<P, Q> {
 // The totals of both sides. It has as many weights as its fuller side; both sides are added to together.
 #[derive(Clone, Copy)]
 pub struct PairTotal<A, B> {
-    first: A,
-    second: B,
+    firsts: A,
+    seconds: B,
 }
 
 impl<A: Copy, B: Copy> PairTotal<A, B> {
     // The total of the first sides.
     pub fn first(&self) -> A
-        ensures { λ r. ⌜ r ≡ now (self .entry) .first ⌝ }
+        ensures { λ r. ⌜ r ≡ now (self .entry) .firsts ⌝ }
     {
-        self.first
+        self.firsts
     }
 
     // The total of the second sides.
     pub fn second(&self) -> B
-        ensures { λ r. ⌜ r ≡ now (self .entry) .second ⌝ }
+        ensures { λ r. ⌜ r ≡ now (self .entry) .seconds ⌝ }
     {
-        self.second
+        self.seconds
     }
 }
 
@@ -41,9 +41,9 @@ pub impl<P: WeightKind, Q: WeightKind> WeightKind for Pair<P, Q> as PairKind {
 
     type Total = PairTotal<P::Total, Q::Total>;
 
-    ghost held = { λ t. max (P·WeightKind .held (t .first)) (Q·WeightKind .held (t .second)) };
+    ghost held = { λ t. max (P·WeightKind .held (t .firsts)) (Q·WeightKind .held (t .seconds)) };
 
-    ghost sum = { λ t. (P·WeightKind .sum (t .first), Q·WeightKind .sum (t .second)) };
+    ghost sum = { λ t. (P·WeightKind .sum (t .firsts), Q·WeightKind .sum (t .seconds)) };
 
     fn at_most(&self, other: &Pair<P, Q>) -> bool {
         if self.first.at_most(&other.first) && other.first.at_most(&self.first) {
@@ -62,27 +62,32 @@ pub impl<P: WeightKind, Q: WeightKind> WeightKind for Pair<P, Q> as PairKind {
 
     fn nothing() -> PairTotal<P::Total, Q::Total> {
         PairTotal {
-            first: P::nothing(),
-            second: Q::nothing(),
+            firsts: P::nothing(),
+            seconds: Q::nothing(),
         }
     }
 
     fn count(total: &PairTotal<P::Total, Q::Total>) -> u8 {
-        P::count(&total.first).max(Q::count(&total.second))
+        P::count(&total.firsts).max(Q::count(&total.seconds))
     }
 
     fn add(total: &mut PairTotal<P::Total, Q::Total>, weight: Pair<P, Q>) {
-        if P::count(&total.first) < 63 && Q::count(&total.second) < 63 {
-            P::add(&mut total.first, weight.first);
-            Q::add(&mut total.second, weight.second);
+        if P::count(&total.firsts) < 63 && Q::count(&total.seconds) < 63 {
+            P::add(&mut total.firsts, weight.first);
+            Q::add(&mut total.seconds, weight.second);
         }
     }
 
-    fn total_at_most(first: &PairTotal<P::Total, Q::Total>, second: &PairTotal<P::Total, Q::Total>) -> bool {
-        if P::total_at_most(&first.first, &second.first) && P::total_at_most(&second.first, &first.first) {
-            Q::total_at_most(&first.second, &second.second)
+    fn total_at_most(
+        first: &PairTotal<P::Total, Q::Total>,
+        second: &PairTotal<P::Total, Q::Total>,
+    ) -> bool {
+        if P::total_at_most(&first.firsts, &second.firsts)
+            && P::total_at_most(&second.firsts, &first.firsts)
+        {
+            Q::total_at_most(&first.seconds, &second.seconds)
         } else {
-            P::total_at_most(&first.first, &second.first)
+            P::total_at_most(&first.firsts, &second.firsts)
         }
     }
 }

@@ -6,17 +6,17 @@ use Rattle.networks.proofs.opening.check_links.Needs as need
 pub returns-then-from-sites : need.returns-then-from-sites
 returns-then-from-sites g c =
     sym (c .loop-number .inv ∙ outside (c .args .sites) (c .loop-number .number) (c .args .links .now) (c .index-links-number .result)
-      (c .loop-number-test .taken) (c .index-links-number .is) (⊎-elim inl (λ b. inr (b .1)) (c .then-from-sites .either)))
+    (c .loop-number-test .taken) (c .index-links-number .is) (⊎-elim inl (λ b. inr (b .1)) (c .then-from-sites .either)))
 
 pub returns-then-from-to : need.returns-then-from-to
 returns-then-from-to g c =
     sym (c .loop-number .inv ∙ self-link (c .args .sites) (c .loop-number .number) (c .args .links .now) (c .index-links-number .result)
-      (c .loop-number-test .taken) (c .index-links-number .is) (c .if-from-sites .left) (c .if-to-sites .left) (c .if-from-to .taken))
+    (c .loop-number-test .taken) (c .index-links-number .is) (c .if-from-sites .left) (c .if-to-sites .left) (c .if-from-to .taken))
 
 pub loop-number-again : need.loop-number-again
 loop-number-again g c =
     c .loop-number .inv ∙ sound-link (c .args .sites) (c .loop-number .number) (c .args .links .now) (c .index-links-number .result)
-      (c .loop-number-test .taken) (c .index-links-number .is) (c .if-from-sites .left) (c .if-to-sites .left) (c .if-from-to .left)
+    (c .loop-number-test .taken) (c .index-links-number .is) (c .if-from-sites .left) (c .if-to-sites .left) (c .if-from-to .left)
 
 pub returns : need.returns
 returns g c =

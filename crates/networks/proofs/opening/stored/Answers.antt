@@ -9,13 +9,12 @@ use Rattle.networks.proofs.opening.stored.Needs as need
 pub loop-number-again : need.loop-number-again
 loop-number-again g c =
     let number = c .loop-number .number in
-    let link = c .index-links-number .result in
-    (
+    let link = c .index-links-number .result in (
       length-set (c .loop-number .places) number link ∙ c .loop-number .inv .0,
       take-more-set (c .loop-number .places) number link (let l = c .loop-number .inv .0 in omega arith)
-      ∙ ap (λ front. front ++ link ∷ []) (c .loop-number .inv .1)
-      ∙ ap (λ one. take number (c .args .links .now) ++ one ∷ []) (c .index-links-number .is)
-      ∙ sym (take-more (c .args .links .now) number link (c .loop-number-test .taken))
+          ∙ ap (λ front. front ++ link ∷ []) (c .loop-number .inv .1)
+          ∙ ap (λ one. take number (c .args .links .now) ++ one ∷ []) (c .index-links-number .is)
+          ∙ sym (take-more (c .args .links .now) number link (c .loop-number-test .taken)),
     )
 
 pub returns : need.returns

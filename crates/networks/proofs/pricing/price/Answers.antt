@@ -15,7 +15,7 @@ pub returns-then-index-ge63 : need.returns-then-index-ge63
 returns-then-index-ge63 g c =
     record {
       refuses = sym (c .loop-index .inv .0 ∙ price-stops (length (c .args .links .now)) (c .loop-index .index) (c .args .row .now) (c .loop-index-test .taken)
-        (⊎-elim (λ a. inl a) (λ b. inr (b .1)) (c .then-index-ge63 .either)));
+          (⊎-elim (λ a. inl a) (λ b. inr (b .1)) (c .then-index-ge63 .either)));
       sums = tt;
       counts = tt;
     }
@@ -29,13 +29,12 @@ loop-index-again g c =
     let link = getD row index 0 in
     let w : ℕ → k .scale .Amount = weightOf (k .scale) (k .amount) links in
     let room : k .held (c .loop-index .total) < 63 = (let h = c .loop-index .inv .2 in let b = c .if-index-ge63 .left in omega arith) in
-    let weight = weight-at (k .scale) (k .amount) links link (c .index-links-link .result) (c .if-link-links .left) in
-    (
+    let weight = weight-at (k .scale) (k .amount) links link (c .index-links-link .result) (c .if-link-links .left) in (
       c .loop-index .inv .0 ∙ price-goes (length links) index row (c .loop-index-test .taken) (c .if-index-ge63 .left) (c .if-link-links .left),
       (let b = c .if-index-ge63 .left in omega arith),
       (c .add .ensures .counts room ∙ ap (λ n. n + 1) (c .loop-index .inv .2)),
       sum-more (k .scale) (g .K·WeightKind·met .lawful) w row index (k .sum (c .loop-index .total)) (k .sum (c .add .last .total)) (w link)
-        (c .loop-index-test .taken) (c .loop-index .inv .3) (c .add .ensures .adds room ∙ ap (k .scale .add (k .sum (c .loop-index .total))) (sym weight)) refl
+          (c .loop-index-test .taken) (c .loop-index .inv .3) (c .add .ensures .adds room ∙ ap (k .scale .add (k .sum (c .loop-index .total))) (sym weight)) refl,
     )
 
 pub returns : need.returns

@@ -23,10 +23,10 @@ fill-requires g c κs =
     let taken = c .in-Some .ensures tt in
     let sound = sound-fields (k .letter) (k .width) (length sheet) (length links) h (sym (c .in-rest-check-fields .ensures tt)) in
     let many : length (take (h .links - 0) links) ≡ h .links =
-      ap (λ n. length (take n links)) (omega arith) ∙ length-take-le (h .links) links (sound .fits) in
+    ap (λ n. length (take n links)) (omega arith) ∙ length-take-le (h .links) links (sound .fits) in
     let rest : length (c .in-Some .records .bytes .now) ≡ length sheet - 9 = ap length (taken .after) ∙ length-drop 9 sheet in
     let size : length sheet - 9 ≡ h .links * (2 + k .width) =
-      (let long = taken .long in let counted = sound .counted in let records = sound .records in omega arith) in
+    (let long = taken .long in let counted = sound .counted in let records = sound .records in omega arith) in
     (taken .start, rest ∙ size ∙ ap (λ n. n * (2 + k .width)) (sym many))
 
 pub returns : need.returns
@@ -40,11 +40,11 @@ returns g c =
     let sound = sound-fields (k .letter) (k .width) (length sheet) (length links) h none in
     let filled = c .fill .last .links in
     let many : length filled ≡ h .links =
-      c .fill .kept .links ∙ ap (λ n. length (take n links)) (omega arith) ∙ length-take-le (h .links) links (sound .fits) in
+    c .fill .kept .links ∙ ap (λ n. length (take n links)) (omega arith) ∙ length-take-le (h .links) links (sound .fits) in
     record {
       refuses = sym (cond-false _ _ _ (le-ltb (length sheet) 9 (taken .long)) ∙ ap (λ x. firstOf (fieldRules (k .letter) (k .width) (length sheet) (length links) x)) (sym (taken .fields)) ∙ none);
       reads = read-whole (k .letter) (k .width) (k .bytes) sheet (c .in-Some .records .bytes .now) (c .in-Some .records .offset) (length sheet) (length links) h filled _
-        (λ i. omega (arith, c .typed .sheet i)) taken sound many (c .fill .ensures);
+          (λ i. omega (arith, c .typed .sheet i)) taken sound many (c .fill .ensures);
       fills = omega (arith, length-append filled (postOf 0 (h .links - 0) links));
       leaves = drop-at filled _ (h .links) many ∙ ap (λ n. drop n links) (omega arith);
       keeps = tt;

@@ -16,6 +16,6 @@ returns g c =
     let same : length both ≡ length places = length-set (set places 0 from) 1 to ∙ length-set places 0 from in
     let pre = c .pre in
     let many : length (take (length both - 2) (drop 2 both)) ≡ g .K·SheetKind .width =
-      omega (arith, length-take (length both - 2) (drop 2 both), length-drop 2 both) in
+    omega (arith, length-take (length both - 2) (drop 2 both), length-drop 2 both) in
     record-put places from to (length both - 2) (c .encode .last .places) (omega arith) (omega arith)
     ∙ ap (λ xs. from ∷ to ∷ xs) (c .encode .ensures .writes many)

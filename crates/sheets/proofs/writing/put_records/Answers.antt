@@ -26,7 +26,7 @@ loop-number-again g c =
     let kept = c .loop-number .kept .places in
     let room : i * r + r ≤ length places = omega arith in
     let one : length (c .put-record .last .places) ≡ r =
-      c .put-record .kept .places ∙ omega (arith, length-take (i * r + r - i * r) (drop (i * r) places), length-drop (i * r) places) in
+    c .put-record .kept .places ∙ omega (arith, length-take (i * r + r - i * r) (drop (i * r) places), length-drop (i * r) places) in
     records-more (recordOf (k .bytes)) (c .args .links .now) i r (i * r + r - i * r) (c .index-links-number .result) places (c .put-record .last .places)
     (c .loop-number-test .taken) (c .index-links-number .is) (omega arith) one (c .put-record .ensures) (c .loop-number .inv)
 
@@ -39,5 +39,5 @@ returns g c =
     let links = c .args .links .now in
     let whole : i ≡ length links = omega arith in
     let size : length places ≡ i * r =
-      c .loop-number .kept .places ∙ c .pre .0 ∙ ap (λ n. length links * (2 + n)) (sym (c .weight-width .ensures)) ∙ ap (λ n. n * r) (sym whole) in
+    c .loop-number .kept .places ∙ c .pre .0 ∙ ap (λ n. length links * (2 + n)) (sym (c .weight-width .ensures)) ∙ ap (λ n. n * r) (sym whole) in
     sym (take-all (i * r) places (omega arith)) ∙ c .loop-number .inv ∙ ap (joined (recordOf (k .bytes))) (take-all i links (c .loop-number-test .left))

@@ -27,11 +27,10 @@ loop-link-again g c =
     let same : c .loop-link .self .bytes .now ≡ bytes = c .loop-link .inv .0 in
     let offset : c .loop-link .self .offset ≡ i * r = c .loop-link .inv .1 in
     let one : recordOf (k .bytes) (c .record .result) ≡ take r (drop (i * r) bytes) =
-      c .record .ensures .value ∙ ap (λ o. take r (drop o (c .loop-link .self .bytes .now))) offset ∙ ap (λ xs. take r (drop (i * r) xs)) same in
-    (
+    c .record .ensures .value ∙ ap (λ o. take r (drop o (c .loop-link .self .bytes .now))) offset ∙ ap (λ xs. take r (drop (i * r) xs)) same in (
       c .record .ensures .same ∙ same,
       (c .record .ensures .offset ∙ ap (λ o. o + r) offset ∙ sym (times-more i r)),
-      joined-step (recordOf (k .bytes)) (c .loop-link .links) i r (c .record .result) bytes (omega arith) (c .loop-link .inv .2) one
+      joined-step (recordOf (k .bytes)) (c .loop-link .links) i r (c .record .result) bytes (omega arith) (c .loop-link .inv .2) one,
     )
 
 pub returns : need.returns
