@@ -1,5 +1,6 @@
-// Answers many sheets in one run: each comes on standard input behind two bytes for its length, and each answer is a
-// line. What it must print was written by an independent reader (tests/make-corpus).
+//! Answers many sheets in one run: each comes on standard input behind two bytes for its length, and each answer is a
+//! line. What it must print was written by an independent reader (tests/make-corpus).
+
 use reports::AnswerDisplay;
 use reports::answer;
 use std::io;

@@ -1,17 +1,18 @@
-// The record of closed links.
+//! The record of closed links.
+
 ghost use Prim.Native.Nat.{ℕ};
 ghost use mathlib.Core.Bool.{false};
 ghost use mathlib.Core.Path.{_≡_};
 ghost use Rattle.networks.specs.Closures.{closedAt};
 
-// Which link numbers are closed. It knows no weights, so that one record serves networks of every kind.
+/// Which link numbers are closed. It knows no weights, so that one record serves networks of every kind.
 #[derive(Clone, Copy)]
 pub struct Closed {
     marks: [bool; 512],
 }
 
 impl Closed {
-    // Every link is open.
+    /// Every link is open.
     pub fn none() -> Closed
         ensures { λ r. ⌜ ((e : ℕ) → closedAt r e ≡ false) ⌝ }
     {
@@ -20,7 +21,7 @@ impl Closed {
         }
     }
 
-    // Whether this link is closed; a number that no link has is not.
+    /// Whether this link is closed; a number that no link has is not.
     pub fn is_closed(&self, link: u16) -> bool
         ensures { λ r. ⌜ r ≡ closedAt (now (self .entry)) link ⌝ }
     {

@@ -1,5 +1,6 @@
-// Link records and the networks made of them: what a record is, when records are refused, how links rank, what a row
-// of links costs, and which links are closed.
+//! Link records and the networks made of them: what a record is, when records are refused, how links rank, what a row
+//! of links costs, and which links are closed.
+
 pub mod closures;
 pub mod links;
 pub mod networks;

@@ -1,4 +1,5 @@
-// Opening records as a network, and what a network gives back.
+//! Opening records as a network, and what a network gives back.
+
 ghost use Prim.Native.Nat.{ℕ, _≤_};
 ghost use mathlib.Core.Bool.{false};
 ghost use mathlib.Core.Path.{_≡_};
@@ -16,7 +17,7 @@ use crate::refusals::Refusal;
 use weights::WeightKind;
 
 impl<K: WeightKind> Network<K> {
-    // A network of these links between so many sites, with every link open.
+    /// A network of these links between so many sites, with every link open.
     pub fn open(sites: u8, links: &[Link<K>]) -> Result<Network<K>, Refusal>
         ensures refuses { λ r. ⌜ refusalOf r ≡ firstOf (openRules sites (now (links .entry))) ⌝ }
         ensures sites { λ r. ⌜ made r (λ n. sitesOf n ≡ sites) ⌝ }
@@ -38,14 +39,14 @@ impl<K: WeightKind> Network<K> {
         })
     }
 
-    // How many sites there are.
+    /// How many sites there are.
     pub fn sites(&self) -> u8
         ensures { λ r. ⌜ r ≡ sitesOf (now (self .entry)) ⌝ }
     {
         self.sites
     }
 
-    // The link records, by number.
+    /// The link records, by number.
     pub fn links(&self) -> &[Link<K>]
         ensures value { λ r. ⌜ now r ≡ linksOf (now (self .entry)) ⌝ }
         ensures few { λ r. ⌜ length (now r) ≤ 512 ⌝ }
@@ -55,7 +56,7 @@ impl<K: WeightKind> Network<K> {
     }
 }
 
-// Refuses the first link with an end that is no site, or with one site at both ends.
+/// Refuses the first link with an end that is no site, or with one site at both ends.
 fn check_links<K: WeightKind>(sites: u8, links: &[Link<K>]) -> Result<(), Refusal>
     ensures { λ r. ⌜ refusalOf r ≡ firstOf (linkRules sites 0 (now (links .entry))) ⌝ }
 {
@@ -71,7 +72,7 @@ fn check_links<K: WeightKind>(sites: u8, links: &[Link<K>]) -> Result<(), Refusa
     Ok(())
 }
 
-// The links in the first of 512 places.
+/// The links in the first of 512 places.
 fn stored<K: WeightKind>(links: &[Link<K>]) -> [Link<K>; 512]
     requires { ⌜ length (now links) ≤ 512 ⌝ }
     ensures { λ r. ⌜ take (length (now (links .entry))) r ≡ now (links .entry) ⌝ }

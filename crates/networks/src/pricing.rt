@@ -1,4 +1,5 @@
-// The price of a row: the total of its links' weights.
+//! The price of a row: the total of its links' weights.
+
 ghost use Prim.Native.Nat.{ℕ};
 ghost use mathlib.Core.List.{map};
 ghost use mathlib.Core.Path.{_≡_};
@@ -12,8 +13,8 @@ use crate::links::Link;
 use crate::refusals::Refusal;
 use weights::WeightKind;
 
-// The total of the weights of a row's links, from the records. The row may be any list of up to 63 of their numbers,
-// in any order, repeats too.
+/// The total of the weights of a row's links, from the records. The row may be any list of up to 63 of their numbers,
+/// in any order, repeats too.
 pub fn price<K: WeightKind>(links: &[Link<K>], row: &[u16]) -> Result<K::Total, Refusal>
     ensures refuses { λ r. ⌜ refusalOf r ≡ firstOf (priceRules (length (now (links .entry))) 0 (now (row .entry))) ⌝ }
     ensures sums { λ r. ⌜ made r (λ t. sum t ≡ sumOf scale (map (weightOf scale amount (now (links .entry))) (now (row .entry)))) ⌝ }

@@ -1,4 +1,5 @@
-// Refusals: what was wrong with what was handed in, or why the moment does not allow a call.
+//! Refusals: what was wrong with what was handed in, or why the moment does not allow a call.
+
 ghost use lib.Chars.{codes};
 ghost use mathlib.Core.List.{_++_};
 ghost use mathlib.Core.Path.{_≡_};
@@ -6,7 +7,7 @@ ghost use Rattle.std.specs.declared.option.Option.the-variants.{Some};
 ghost use Rattle.networks.specs.Refusals.{reportOf, nameOf, lineOf};
 use std::fmt;
 
-// The part of the product that refuses.
+/// The part of the product that refuses.
 #[derive(Clone, Copy, PartialEq, Eq, Debug)]
 pub enum Layer {
     Sheet,
@@ -15,7 +16,7 @@ pub enum Layer {
 }
 
 impl Layer {
-    // The layer's name as it is printed.
+    /// The layer's name as it is printed.
     pub fn name(&self) -> &'static str
         ensures { λ r. ⌜ now r ≡ nameOf (now (self .entry)) ⌝ }
     {
@@ -27,48 +28,48 @@ impl Layer {
     }
 }
 
-// Everything that is refused; each case carries the values that its place is made of.
+/// Everything that is refused; each case carries the values that its place is made of.
 #[derive(Clone, Copy, Debug)]
 pub enum Refusal {
-    // The sheet has only so many bytes, fewer than its header.
+    /// The sheet has only so many bytes, fewer than its header.
     ShortSheet(usize),
-    // The length field is not the number of bytes after it.
+    /// The length field is not the number of bytes after it.
     WrongLength,
-    // The version byte is not one that is read.
+    /// The version byte is not one that is read.
     UnknownVersion,
-    // The kind byte is not the letter of the kind that is read.
+    /// The kind byte is not the letter of the kind that is read.
     OtherKind,
-    // The number of sites is not 1 to 64.
+    /// The number of sites is not 1 to 64.
     SiteCount(Layer),
-    // There are more than 512 links.
+    /// There are more than 512 links.
     LinkCount(Layer),
-    // The length field does not fit the number of links.
+    /// The length field does not fit the number of links.
     WrongRecords,
-    // An end of this link is no site.
+    /// An end of this link is no site.
     NoSuchSite(usize),
-    // Both ends of this link are one site.
+    /// Both ends of this link are one site.
     SelfLink(usize),
-    // A passed list has only so many places, fewer than are needed.
+    /// A passed list has only so many places, fewer than are needed.
     ShortList(Layer, usize),
-    // There is no link of this number.
+    /// There is no link of this number.
     NoSuchLink(u16),
-    // The letter is no class.
+    /// The letter is no class.
     UnknownClass,
-    // The row sought is not in the full list.
+    /// The row sought is not in the full list.
     NotListed,
-    // The row's entry at this index is no record's number, or a 64th.
+    /// The row's entry at this index is no record's number, or a 64th.
     BadEntry(usize),
-    // The sites are not joined.
+    /// The sites are not joined.
     NotJoined(Layer),
-    // No row follows.
+    /// No row follows.
     NoRowFollows,
-    // The walk is not on a row yet.
+    /// The walk is not on a row yet.
     NotOnRow,
-    // This link is not in the walk's row.
+    /// This link is not in the walk's row.
     NotInRow(u16),
 }
 
-// A refusal as the outside sees it.
+/// A refusal as the outside sees it.
 #[derive(Clone, Copy, PartialEq, Eq, Debug)]
 pub struct Report {
     pub layer: Layer,
@@ -77,7 +78,7 @@ pub struct Report {
 }
 
 impl Refusal {
-    // The layer, number and place of this refusal.
+    /// The layer, number and place of this refusal.
     pub fn to_report(&self) -> Report
         ensures { λ r. ⌜ r ≡ reportOf (now (self .entry)) ⌝ }
     {
@@ -111,7 +112,7 @@ impl Refusal {
     }
 }
 
-// The line that is printed of a refusal.
+/// The line that is printed of a refusal.
 pub impl fmt::Display for Refusal as RefusalDisplay {
     ghost shown = { λ x. Some (lineOf (reportOf x)) };
 

@@ -1,16 +1,17 @@
-// The kinds of sheet that are told apart, and the answer to a sheet.
+//! The kinds of sheet that are told apart, and the answer to a sheet.
+
 use networks::Refusal;
 
-// How a sheet is read.
+/// How a sheet is read.
 #[derive(Clone, Copy, PartialEq, Eq, Debug)]
 pub enum Kind {
-    // Kind W: metres.
+    /// Kind W: metres.
     Metres,
-    // Kind P: crossings, and then metres.
+    /// Kind P: crossings, and then metres.
     CrossedMetres,
 }
 
-// The answer to a sheet: its sites and links, or why it is refused.
+/// The answer to a sheet: its sites and links, or why it is refused.
 #[derive(Clone, Copy)]
 pub enum Answer {
     Sound { sites: u8, links: usize },

@@ -1,4 +1,5 @@
-// What the program `trees` prints of a sheet.
+//! What the program `trees` prints of a sheet.
+
 pub mod answers;
 pub mod lines;
 

@@ -1,4 +1,5 @@
-// Answering a sheet, and the answer as a line.
+//! Answering a sheet, and the answer as a line.
+
 ghost use Prim.Native.Nat.{ℕ};
 ghost use mathlib.Core.Path.{_≡_};
 ghost use Rattle.std.specs.declared.option.Option.the-variants.{Some};
@@ -22,7 +23,7 @@ use weights::MetresKind;
 use weights::Pair;
 use weights::PairKind;
 
-// The kind that a sheet is read as: P where its byte 5 says so, and W otherwise.
+/// The kind that a sheet is read as: P where its byte 5 says so, and W otherwise.
 pub fn kind_of(sheet: &[u8]) -> Kind
     ensures { λ r. ⌜ r ≡ kindOf (now (sheet .entry)) ⌝ }
 {
@@ -33,7 +34,7 @@ pub fn kind_of(sheet: &[u8]) -> Kind
     }
 }
 
-// Loads the sheet as a network of the kind that it is read as, and answers its sites and links, or the refusal.
+/// Loads the sheet as a network of the kind that it is read as, and answers its sites and links, or the refusal.
 pub fn answer(sheet: &[u8]) -> Answer
     ensures { λ r. ⌜ Answers (now (sheet .entry)) r ⌝ }
 {
@@ -70,7 +71,7 @@ fn answer_crossed(sheet: &[u8]) -> Answer
     told(load(sheet, &mut links))
 }
 
-// What is answered where loading gave this.
+/// What is answered where loading gave this.
 fn told<K: SheetKind>(loaded: Result<Network<K>, Refusal>) -> Answer
     ensures { λ r. ⌜ r ≡ toldOf loaded ⌝ }
 {
@@ -83,7 +84,7 @@ fn told<K: SheetKind>(loaded: Result<Network<K>, Refusal>) -> Answer
     }
 }
 
-// The line that is printed of an answer.
+/// The line that is printed of an answer.
 pub impl fmt::Display for Answer as AnswerDisplay {
     ghost shown = { λ x. Some (lineOfAnswer x) };
 

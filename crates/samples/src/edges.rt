@@ -1,4 +1,5 @@
-// Each refusal of a sheet at its lowest and highest edge.
+//! Each refusal of a sheet at its lowest and highest edge.
+
 #[cfg(test)]
 pub mod tests {
     use crate::outcomes::tests::outcome;

@@ -1,4 +1,5 @@
-// Records opened, ranked and priced.
+//! Records opened, ranked and priced.
+
 #[cfg(test)]
 pub mod tests {
     use crate::outcomes::tests::outcome;
@@ -89,7 +90,9 @@ pub mod tests {
         let links = [link(0, 1, 7); 513];
         check_eq(outcome(Network::open(2, &links[0..512])), None)?;
         check_eq(outcome(Network::open(2, &links)), in_network(6, 0))?;
-        check_eq(outcome(Network::open(65, &links)), in_network(5, 0)).note("sites are looked at first")
+        check_eq(outcome(Network::open(65, &links)), in_network(5, 0)).note(
+            "sites are looked at first",
+        )
     }
 
     #[test]

@@ -1,4 +1,5 @@
-// What an answer refuses with, for comparison.
+//! What an answer refuses with, for comparison.
+
 #[cfg(test)]
 pub mod tests {
     use networks::Layer;

@@ -1,4 +1,5 @@
-// Weights compared and added up.
+//! Weights compared and added up.
+
 #[cfg(test)]
 pub mod tests {
     use std::test::*;

@@ -1,4 +1,5 @@
-// Sheet kinds: the weight kinds that have a letter and bytes on sheets.
+//! Sheet kinds: the weight kinds that have a letter and bytes on sheets.
+
 ghost use Prim.Native.Nat.{ℕ};
 ghost use mathlib.Core.List.{List, _++_};
 ghost use mathlib.Core.Path.{_≡_};
@@ -13,16 +14,16 @@ use weights::Pair;
 use weights::PairKind;
 use weights::WeightKind;
 
-// A weight kind with a letter, and with bytes for each weight: as many for every weight, and other bytes for another
-// weight.
+/// A weight kind with a letter, and with bytes for each weight: as many for every weight, and other bytes for another
+/// weight.
 pub trait SheetKind: WeightKind {
-    // The byte that names the kind on a sheet.
+    /// The byte that names the kind on a sheet.
     ghost letter: { ℕ };
 
-    // How many bytes a weight has.
+    /// How many bytes a weight has.
     ghost width: { ℕ };
 
-    // The bytes of a weight.
+    /// The bytes of a weight.
     ghost bytes: { Self → List ℕ };
 
     law wide: { (w : Self) → length (bytes w) ≡ width };
@@ -35,17 +36,17 @@ pub trait SheetKind: WeightKind {
     fn weight_width() -> u16
         ensures { λ r. ⌜ r ≡ width ⌝ };
 
-    // The weight that has these bytes; none where they are not as many as a weight has.
+    /// The weight that has these bytes; none where they are not as many as a weight has.
     fn decode(encoded: &[u8]) -> Option<Self>
         ensures { λ r. ⌜ Cases r (length (now (encoded .entry)) ≡ width → ⊥) (λ w. bytes w ≡ now (encoded .entry)) ⌝ };
 
-    // Writes the bytes of the weight into as many places; nothing where there are not as many.
+    /// Writes the bytes of the weight into as many places; nothing where there are not as many.
     fn encode(self, places: &mut [u8])
         ensures writes { λ _. ⌜ (length (now (places .entry)) ≡ width → now (places .exit) ≡ bytes self) ⌝ }
         ensures keeps { λ _. ⌜ ((length (now (places .entry)) ≡ width → ⊥) → now (places .exit) ≡ now (places .entry)) ⌝ };
 }
 
-// Kind W: four bytes of metres.
+/// Kind W: four bytes of metres.
 pub impl SheetKind for Metres as MetresSheet {
     ghost letter = { 87 };
 
@@ -75,7 +76,7 @@ pub impl SheetKind for Metres as MetresSheet {
     }
 }
 
-// Kind P: two bytes of crossings and four of metres.
+/// Kind P: two bytes of crossings and four of metres.
 pub impl SheetKind for Pair<Crossings, Metres> as CrossedMetresSheet {
     ghost letter = { 80 };
 

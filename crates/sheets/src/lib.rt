@@ -1,4 +1,5 @@
-// Network sheets: link records as bytes, read and written.
+//! Network sheets: link records as bytes, read and written.
+
 pub mod kinds;
 pub mod loading;
 mod reader;

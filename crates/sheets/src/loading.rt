@@ -1,4 +1,5 @@
-// Loading: a sheet read and opened as a network.
+//! Loading: a sheet read and opened as a network.
+
 ghost use Prim.Native.Nat.{ℕ, _≤_};
 ghost use mathlib.Core.Bool.{false};
 ghost use mathlib.Core.Path.{_≡_};
@@ -18,8 +19,8 @@ use networks::Link;
 use networks::Network;
 use networks::Refusal;
 
-// Reads a sheet into the first of the links and opens them as a network. Where the sheet is refused, the links are
-// unaltered; where its links are refused, they stay in the list.
+/// Reads a sheet into the first of the links and opens them as a network. Where the sheet is refused, the links are
+/// unaltered; where its links are refused, they stay in the list.
 pub fn load<K: SheetKind>(sheet: &[u8], links: &mut [Link<K>]) -> Result<Network<K>, Refusal>
     ensures { λ r. ⌜ Cases (firstOf (readRules letter width (now (sheet .entry)) (length (now (links .entry))))) (Opened letter width bytes (now (sheet .entry)) (now (links .entry)) (now (links .exit)) r) (λ report. (refusalOf r ≡ Some report) × (now (links .exit) ≡ now (links .entry))) ⌝ }
 {
@@ -29,7 +30,7 @@ pub fn load<K: SheetKind>(sheet: &[u8], links: &mut [Link<K>]) -> Result<Network
     }
 }
 
-// Opens the first of the links.
+/// Opens the first of the links.
 fn open_first<K: SheetKind>(counts: Counts, links: &[Link<K>]) -> Result<Network<K>, Refusal>
     requires { ⌜ counts .links ≤ length (now links) ⌝ }
     ensures refuses { λ r. ⌜ refusalOf r ≡ firstOf (openRules (counts .sites) (take (counts .links) (now (links .entry)))) ⌝ }

@@ -1,4 +1,5 @@
-// The reader of a sheet: it takes the header off, and then one record after the other.
+//! The reader of a sheet: it takes the header off, and then one record after the other.
+
 ghost use Prim.Native.Nat.{ℕ, _+_, _*_, _<_, _≤_};
 ghost use mathlib.Core.Path.{_≡_};
 ghost use lib.ListN.{length, getD, take, drop};
@@ -9,10 +10,10 @@ ghost use Rattle.sheets.specs.Headers.{Taken};
 use crate::kinds::SheetKind;
 use networks::Link;
 
-// What a sheet says of itself before its records.
+/// What a sheet says of itself before its records.
 #[derive(Clone, Copy)]
 pub(crate) struct Header {
-    // How many bytes follow this field.
+    /// How many bytes follow this field.
     pub(crate) length: u32,
     pub(crate) version: u8,
     pub(crate) kind: u8,
@@ -20,14 +21,14 @@ pub(crate) struct Header {
     pub(crate) links: u16,
 }
 
-// The records of a sheet, read up to an offset.
+/// The records of a sheet, read up to an offset.
 #[derive(Drop)]
 pub(crate) struct Reader<'a> {
     bytes: &'a [u8],
     offset: usize,
 }
 
-// The header of a sheet, and a reader of what follows it; none where the sheet is shorter than a header.
+/// The header of a sheet, and a reader of what follows it; none where the sheet is shorter than a header.
 pub(crate) fn take_header(sheet: &[u8]) -> Option<(Header, Reader<'_>)>
     ensures { λ r. ⌜ Cases r (length (now (sheet .entry)) < 9) (λ h. Taken (now (sheet .entry)) (h .0) (now (h .1 .bytes)) (h .1 .offset)) ⌝ }
 {
@@ -49,7 +50,7 @@ pub(crate) fn take_header(sheet: &[u8]) -> Option<(Header, Reader<'_>)>
 }
 
 impl Reader<'_> {
-    // The next byte.
+    /// The next byte.
     fn byte(&mut self) -> u8
         requires { ⌜ now self .offset < length (now (now self .bytes)) ⌝ }
         ensures value { λ r. ⌜ r ≡ getD (now (now (self .entry) .bytes)) (now (self .entry) .offset) 0 ⌝ }
@@ -61,7 +62,7 @@ impl Reader<'_> {
         byte
     }
 
-    // The next weight.
+    /// The next weight.
     fn weight<K: SheetKind>(&mut self) -> K
         requires { ⌜ now self .offset + width ≤ length (now (now self .bytes)) ⌝ }
         ensures value { λ r. ⌜ bytes r ≡ take width (drop (now (self .entry) .offset) (now (now (self .entry) .bytes))) ⌝ }
@@ -77,7 +78,7 @@ impl Reader<'_> {
         }
     }
 
-    // The next record.
+    /// The next record.
     fn record<K: SheetKind>(&mut self) -> Link<K>
         requires { ⌜ now self .offset + (2 + width) ≤ length (now (now self .bytes)) ⌝ }
         ensures value { λ r. ⌜ recordOf bytes r ≡ take (2 + width) (drop (now (self .entry) .offset) (now (now (self .entry) .bytes))) ⌝ }
@@ -90,7 +91,7 @@ impl Reader<'_> {
         Link { from, to, weight }
     }
 
-    // Fills the links with the records of a sheet, of which there are as many.
+    /// Fills the links with the records of a sheet, of which there are as many.
     pub(crate) fn fill<K: SheetKind>(&mut self, links: &mut [Link<K>])
         requires { ⌜ now self .offset ≡ 0 ⌝ ∗ ⌜ length (now (now self .bytes)) ≡ length (now links) * (2 + width) ⌝ }
         ensures { λ _. ⌜ joined (recordOf bytes) (now (links .exit)) ≡ now (now (self .entry) .bytes) ⌝ }

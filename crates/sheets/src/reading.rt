@@ -1,4 +1,5 @@
-// Reading a sheet into link records.
+//! Reading a sheet into link records.
+
 ghost use Prim.Native.Nat.{ℕ, _≤_};
 ghost use mathlib.Core.Path.{_≡_};
 ghost use lib.ListN.{length, take, drop};
@@ -15,15 +16,15 @@ use networks::Layer;
 use networks::Link;
 use networks::Refusal;
 
-// How many sites and links a sheet has.
+/// How many sites and links a sheet has.
 #[derive(Clone, Copy, PartialEq, Eq, Debug)]
 pub struct Counts {
     pub sites: u8,
     pub links: u16,
 }
 
-// Reads a sheet of this kind into the first of the links, as many as it has, and leaves the others. The cost grows with
-// the length of the sheet.
+/// Reads a sheet of this kind into the first of the links, as many as it has, and leaves the others. The cost grows with
+/// the length of the sheet.
 pub fn read<K: SheetKind>(sheet: &[u8], links: &mut [Link<K>]) -> Result<Counts, Refusal>
     ensures refuses { λ r. ⌜ refusalOf r ≡ firstOf (readRules letter width (now (sheet .entry)) (length (now (links .entry)))) ⌝ }
     ensures reads { λ r. ⌜ made r (λ n. sheetOf letter width bytes (n .sites) (take (n .links) (now (links .exit))) ≡ now (sheet .entry)) ⌝ }
@@ -46,7 +47,7 @@ pub fn read<K: SheetKind>(sheet: &[u8], links: &mut [Link<K>]) -> Result<Counts,
     })
 }
 
-// Refuses what no sheet of this kind and size says of itself, and more links than there is room for.
+/// Refuses what no sheet of this kind and size says of itself, and more links than there is room for.
 fn check_fields<K: SheetKind>(header: &Header, size: usize, room: usize) -> Result<(), Refusal>
     ensures { λ r. ⌜ refusalOf r ≡ firstOf (fieldRules letter width size room (now (header .entry))) ⌝ }
 {

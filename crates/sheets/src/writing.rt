@@ -1,4 +1,5 @@
-// Writing link records as a sheet.
+//! Writing link records as a sheet.
+
 ghost use Prim.Native.Nat.{ℕ, _+_, _*_, _≤_};
 ghost use mathlib.Core.List.{List, [], _∷_, _++_};
 ghost use mathlib.Core.Path.{_≡_};
@@ -16,8 +17,8 @@ use networks::Layer;
 use networks::Link;
 use networks::Refusal;
 
-// Writes the sheet of these links between so many sites into the first bytes, leaves the others, and answers the
-// sheet's length. It does not look at the ends. The cost grows with the length of the sheet.
+/// Writes the sheet of these links between so many sites into the first bytes, leaves the others, and answers the
+/// sheet's length. It does not look at the ends. The cost grows with the length of the sheet.
 pub fn write<K: SheetKind>(sites: u8, links: &[Link<K>], sheet: &mut [u8]) -> Result<usize, Refusal>
     ensures refuses { λ r. ⌜ refusalOf r ≡ firstOf (writeRules width sites (length (now (links .entry))) (length (now (sheet .entry)))) ⌝ }
     ensures len { λ r. ⌜ made r (λ n. n ≡ length (sheetOf letter width bytes sites (now (links .entry)))) ⌝ }
@@ -43,7 +44,7 @@ pub fn write<K: SheetKind>(sites: u8, links: &[Link<K>], sheet: &mut [u8]) -> Re
     Ok(size)
 }
 
-// Writes the nine bytes of a header.
+/// Writes the nine bytes of a header.
 fn put_header<K: SheetKind>(sites: u8, count: u16, places: &mut [u8])
     requires { ⌜ length (now places) ≡ 9 ⌝ ∗ ⌜ count ≤ 512 ⌝ }
     ensures { λ _. ⌜ now (places .exit) ≡ be32 (5 + count * (2 + width)) ++ (1 ∷ letter ∷ sites ∷ be16 count) ⌝ }
@@ -54,7 +55,7 @@ fn put_header<K: SheetKind>(sites: u8, count: u16, places: &mut [u8])
     places.copy_from_slice(&[a, b, c, d, 1, K::kind_byte(), sites, high, low]);
 }
 
-// Writes one record.
+/// Writes one record.
 fn put_record<K: SheetKind>(link: Link<K>, places: &mut [u8])
     requires { ⌜ length (now places) ≡ 2 + width ⌝ }
     ensures { λ _. ⌜ now (places .exit) ≡ recordOf bytes link ⌝ }
@@ -65,7 +66,7 @@ fn put_record<K: SheetKind>(link: Link<K>, places: &mut [u8])
     link.weight.encode(&mut places[2..end]);
 }
 
-// Writes one record after the other.
+/// Writes one record after the other.
 fn put_records<K: SheetKind>(links: &[Link<K>], places: &mut [u8])
     requires { ⌜ length (now places) ≡ length (now links) * (2 + width) ⌝ ∗ ⌜ length (now links) ≤ 512 ⌝ }
     ensures { λ _. ⌜ now (places .exit) ≡ joined (recordOf bytes) (now (links .entry)) ⌝ }

@@ -1,10 +1,11 @@
-// `trees` reads a network sheet from standard input and says what it holds, or why it is refused.
+//! `trees` reads a network sheet from standard input and says what it holds, or why it is refused.
+
 use reports::AnswerDisplay;
 use reports::answer;
 use std::io;
 use std::io::Read;
 
-// One byte more than the longest sheet has, so that a longer one is seen to be too long.
+/// One byte more than the longest sheet has, so that a longer one is seen to be too long.
 const MOST: u64 = 4106;
 
 fn main(rt: LibcRuntime) -> io::Result<()> {

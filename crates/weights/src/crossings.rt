@@ -1,14 +1,15 @@
-// Street crossings: 16-bit numbers with a 32-bit total.
+//! Street crossings: 16-bit numbers with a 32-bit total.
+
 ghost use Prim.Native.Nat.{ℕ, _*_, _≤_};
 ghost use mathlib.Core.Path.{_≡_};
 ghost use Rattle.weights.specs.Amounts.{numbers};
 use crate::kinds::WeightKind;
 
-// A number of crossings.
+/// A number of crossings.
 #[derive(Clone, Copy, PartialEq, Eq, Debug)]
 pub struct Crossings(pub u16);
 
-// The sum of up to 63 such numbers.
+/// The sum of up to 63 such numbers.
 #[derive(Clone, Copy)]
 pub struct CrossingsTotal {
     count: u8,
@@ -18,7 +19,7 @@ pub struct CrossingsTotal {
 }
 
 impl CrossingsTotal {
-    // The sum in crossings.
+    /// The sum in crossings.
     pub fn crossings(&self) -> u32
         ensures { λ r. ⌜ r ≡ now (self .entry) .crossings ⌝ }
     {

@@ -1,14 +1,15 @@
-// Metres of trench: 32-bit numbers with a 64-bit total.
+//! Metres of trench: 32-bit numbers with a 64-bit total.
+
 ghost use Prim.Native.Nat.{ℕ, _*_, _≤_};
 ghost use mathlib.Core.Path.{_≡_};
 ghost use Rattle.weights.specs.Amounts.{numbers};
 use crate::kinds::WeightKind;
 
-// A length in metres.
+/// A length in metres.
 #[derive(Clone, Copy, PartialEq, Eq, Debug)]
 pub struct Metres(pub u32);
 
-// The sum of up to 63 lengths.
+/// The sum of up to 63 lengths.
 #[derive(Clone, Copy)]
 pub struct MetresTotal {
     count: u8,
@@ -18,7 +19,7 @@ pub struct MetresTotal {
 }
 
 impl MetresTotal {
-    // The sum in metres.
+    /// The sum in metres.
     pub fn metres(&self) -> u64
         ensures { λ r. ⌜ r ≡ now (self .entry) .metres ⌝ }
     {

@@ -1,17 +1,18 @@
-// The pair of any two weight kinds: the first side decides, and the second where the first sides are equal.
+//! The pair of any two weight kinds: the first side decides, and the second where the first sides are equal.
+
 ghost use Prim.Native.Nat.{max};
 ghost use mathlib.Core.Path.{_≡_};
 ghost use Rattle.weights.specs.Amounts.{pairs};
 use crate::kinds::WeightKind;
 
-// Two weights, the deciding one first.
+/// Two weights, the deciding one first.
 #[derive(Clone, Copy, PartialEq, Eq, Debug)]
 pub struct Pair<P, Q> {
     pub first: P,
     pub second: Q,
 }
 
-// The totals of both sides. It has as many weights as its fuller side; both sides are added to together.
+/// The totals of both sides. It has as many weights as its fuller side; both sides are added to together.
 #[derive(Clone, Copy)]
 pub struct PairTotal<A, B> {
     firsts: A,
@@ -19,14 +20,14 @@ pub struct PairTotal<A, B> {
 }
 
 impl<A: Copy, B: Copy> PairTotal<A, B> {
-    // The total of the first sides.
+    /// The total of the first sides.
     pub fn first(&self) -> A
         ensures { λ r. ⌜ r ≡ now (self .entry) .firsts ⌝ }
     {
         self.firsts
     }
 
-    // The total of the second sides.
+    /// The total of the second sides.
     pub fn second(&self) -> B
         ensures { λ r. ⌜ r ≡ now (self .entry) .seconds ⌝ }
     {
