@@ -1,4 +1,4 @@
--- The rules of opening, link by link. Assumes nothing.
+-- The rules of opening, link by link.
 use mathlib.Core.Path.{_≡_, refl, sym, ap, _∙_}
 use mathlib.Core.Bool.{Bool, true, false, cond, not, _&&_}
 use mathlib.Core.Logic.{_⊎_, inl, inr, ⊎-elim, _≢_}

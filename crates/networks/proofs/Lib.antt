@@ -1,5 +1,6 @@
 pub mod Counts
 pub mod Faults
+pub mod FirstFaults
 pub mod Injections
 pub mod Marks
 pub mod Order

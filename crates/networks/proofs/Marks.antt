@@ -1,4 +1,4 @@
--- Marks that are all alike. Assumes nothing.
+-- Marks that are all alike.
 use mathlib.Core.Path.{_≡_, refl}
 use mathlib.Core.Bool.{false}
 use Prim.Native.Nat.{ℕ, zero, suc}

@@ -1,4 +1,4 @@
--- The rules of a price, entry by entry. Assumes nothing.
+-- The rules of a price, entry by entry.
 use mathlib.Core.Path.{_≡_, ap, sym, _∙_}
 use mathlib.Core.Bool.{Bool, true, false, cond, not, _||_}
 use mathlib.Core.Logic.{_⊎_, inl, inr, ⊎-elim}

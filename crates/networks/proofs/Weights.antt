@@ -1,4 +1,4 @@
--- The amount of a link that was read from the records. Assumes nothing.
+-- The amount of a link that was read from the records.
 use mathlib.Core.Path.{_≡_}
 use mathlib.Core.List.{List}
 use Prim.Native.Nat.{ℕ, _<_}

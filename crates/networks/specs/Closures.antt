@@ -1,4 +1,4 @@
--- Which links are closed. Assumes nothing.
+-- Which links are closed.
 use mathlib.Core.Bool.{Bool, false}
 use Prim.Native.Nat.{ℕ}
 use lib.ListN.{getD}

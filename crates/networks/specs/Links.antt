@@ -1,4 +1,4 @@
--- What link records say. Assumes nothing.
+-- What link records say.
 use mathlib.Core.Bool.{Bool, true, not, _&&_}
 use mathlib.Core.List.{List, [], _∷_, map}
 use Prim.Native.Nat.{ℕ}
@@ -15,3 +15,10 @@ weightOf s amount links e = getD (map (λ link. amount (link .weight)) links) e 
 abbrev pub sound : {W : Type 0} → ℕ → List (Link W) → Bool
 sound sites [] = true
 sound sites (link ∷ links) = (ltb (link .from) sites && (ltb (link .to) sites && not (eqb (link .from) (link .to)))) && sound sites links
+
+-- the ends of each link, by the link's number
+abbrev pub fromOf : {W : Type 0} → List (Link W) → ℕ → ℕ
+fromOf links e = getD (map (λ link. link .from) links) e 0
+
+abbrev pub toOf : {W : Type 0} → List (Link W) → ℕ → ℕ
+toOf links e = getD (map (λ link. link .to) links) e 0

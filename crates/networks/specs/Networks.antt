@@ -1,4 +1,4 @@
--- What a network holds. Assumes nothing.
+-- What a network holds.
 use mathlib.Core.Bool.{Bool}
 use mathlib.Core.List.{List}
 use Prim.Native.Nat.{ℕ}

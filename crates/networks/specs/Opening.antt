@@ -1,10 +1,13 @@
--- When records are refused. Assumes nothing.
-use mathlib.Core.Bool.{Bool, not, _&&_}
+-- When records are refused.
+use mathlib.Core.Path.{_≡_}
+use mathlib.Core.Bool.{Bool, true, not, _&&_}
 use mathlib.Core.List.{List, [], _∷_}
-use Prim.Native.Nat.{ℕ, _+_}
+use Prim.Native.Nat.{ℕ, _+_, _≤_, _<_}
 use lib.Dec.{eqb, leb, ltb}
-use lib.ListN.{length}
-use Rattle.networks.specs.Refusals.{Rule, at}
+use lib.ListN.{length, take}
+use Rattle.std.specs.declared.option.Option.the-variants.{None, Some}
+use Rattle.networks.specs.Links.{sound, fromOf, toOf}
+use Rattle.networks.specs.Refusals.{Rule, at, firstOf}
 use Rattle.networks.specs.declared.links.Link.{Link}
 use Rattle.networks.specs.declared.refusals.Layer.the-variants.{Network}
 
@@ -24,3 +27,11 @@ module _ {W : Type 0} where
       (not (leb 1 sites && leb sites 64), at Network 5 0)
       ∷ (ltb 512 (length links), at Network 6 0)
       ∷ linkRules sites 0 links
+
+-- Nothing else is refused, and of faulty links the first.
+pub record OpeningLaws (W : Type 0) : Type 0 where
+  pub accepts : (sites : ℕ) (links : List (Link W)) → 1 ≤ sites → sites ≤ 64 → length links ≤ 512 → sound sites links ≡ true → firstOf (openRules sites links) ≡ None
+  -- with 8, the links before the place are sound, and an end of the link there is no site
+  pub outside : (sites : ℕ) (links : List (Link W)) (k : ℕ) → firstOf (openRules sites links) ≡ Some (at Network 8 k) → (k < length links) × (sound sites (take k links) ≡ true) × ((fromOf links k < sites) × (toOf links k < sites) → ⊥)
+  -- with 9, the links before the place are sound, and the link there joins one site to itself
+  pub self-link : (sites : ℕ) (links : List (Link W)) (k : ℕ) → firstOf (openRules sites links) ≡ Some (at Network 9 k) → (k < length links) × (sound sites (take k links) ≡ true) × (fromOf links k < sites) × (fromOf links k ≡ toOf links k)

@@ -1,4 +1,4 @@
--- What each refusal says to the outside, and how a list of rules decides. Assumes nothing.
+-- What each refusal says to the outside, and how a list of rules decides.
 use mathlib.Core.Bool.{Bool, cond}
 use mathlib.Core.List.{List, [], _∷_, _++_}
 use Prim.Native.Nat.{ℕ}
@@ -11,7 +11,7 @@ use Rattle.std.specs.declared.result.Result.the-variants.{Ok, Err}
 use Rattle.networks.specs.declared.refusals.Layer.{Layer}
 use Rattle.networks.specs.declared.refusals.Layer.the-variants.{Sheet, Network, Walk}
 use Rattle.networks.specs.declared.refusals.Refusal.{Refusal}
-use Rattle.networks.specs.declared.refusals.Refusal.the-variants.{ShortSheet, WrongLength, UnknownVersion, OtherKind, SiteCount, LinkCount, WrongRecords, NoSuchSite, SelfLink, ShortList, NoSuchLink, UnknownClass, NotListed, BadEntry, NotJoined, NoRowFollows, NotOnRow, NotInRow}
+use Rattle.networks.specs.declared.refusals.Refusal.the-variants.{ShortSheet, WrongLength, UnknownVersion, OtherKind, SheetSiteCount, SiteCount, SheetLinkCount, LinkCount, WrongRecords, NoSuchSite, SelfLink, ShortList, NoSuchLink, UnknownClass, NotListed, BadEntry, TrialNotJoined, NotJoined, NoRowFollows, NotOnRow, NotInRow}
 use Rattle.networks.specs.declared.refusals.Report.{Report}
 
 abbrev pub at : Layer → ℕ → ℕ → Report
@@ -23,12 +23,10 @@ reportOf (ShortSheet bytes) = at Sheet 1 bytes
 reportOf WrongLength = at Sheet 2 0
 reportOf UnknownVersion = at Sheet 3 4
 reportOf OtherKind = at Sheet 4 5
-reportOf (SiteCount Sheet) = at Sheet 5 6
-reportOf (SiteCount Network) = at Network 5 0
-reportOf (SiteCount Walk) = at Walk 5 0
-reportOf (LinkCount Sheet) = at Sheet 6 7
-reportOf (LinkCount Network) = at Network 6 0
-reportOf (LinkCount Walk) = at Walk 6 0
+reportOf SheetSiteCount = at Sheet 5 6
+reportOf SiteCount = at Network 5 0
+reportOf SheetLinkCount = at Sheet 6 7
+reportOf LinkCount = at Network 6 0
 reportOf WrongRecords = at Sheet 7 7
 reportOf (NoSuchSite link) = at Network 8 link
 reportOf (SelfLink link) = at Network 9 link
@@ -37,7 +35,8 @@ reportOf (NoSuchLink link) = at Network 11 link
 reportOf UnknownClass = at Network 12 0
 reportOf NotListed = at Walk 13 0
 reportOf (BadEntry index) = at Network 14 index
-reportOf (NotJoined layer) = at layer 15 0
+reportOf TrialNotJoined = at Network 15 0
+reportOf NotJoined = at Walk 15 0
 reportOf NoRowFollows = at Walk 16 0
 reportOf NotOnRow = at Walk 17 0
 reportOf (NotInRow link) = at Walk 18 link

@@ -21,7 +21,7 @@ impl Closed {
         }
     }
 
-    /// Whether this link is closed; a number that no link has is not.
+    /// Whether this link is closed; a number of 512 or more is not.
     pub fn is_closed(&self, link: u16) -> bool
         ensures { λ r. ⌜ r ≡ closedAt (now (self .entry)) link ⌝ }
     {

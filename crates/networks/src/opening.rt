@@ -7,12 +7,11 @@ ghost use lib.ListN.{length, take};
 ghost use Rattle.std.specs.Vec.{made};
 ghost use Rattle.networks.specs.Closures.{closedAt};
 ghost use Rattle.networks.specs.Networks.{sitesOf, linksOf, closedIn};
-ghost use Rattle.networks.specs.Opening.{openRules, linkRules};
+ghost use Rattle.networks.specs.Opening.{openRules, linkRules, OpeningLaws};
 ghost use Rattle.networks.specs.Refusals.{refusalOf, firstOf};
 use crate::closures::Closed;
 use crate::links::Link;
 use crate::networks::Network;
-use crate::refusals::Layer;
 use crate::refusals::Refusal;
 use weights::WeightKind;
 
@@ -25,10 +24,10 @@ impl<K: WeightKind> Network<K> {
         ensures opens { λ r. ⌜ made r (λ n. (e : ℕ) → closedIn n e ≡ false) ⌝ }
     {
         if sites < 1 || sites > 64 {
-            return Err(Refusal::SiteCount(Layer::Network));
+            return Err(Refusal::SiteCount);
         }
         if links.len() > 512 {
-            return Err(Refusal::LinkCount(Layer::Network));
+            return Err(Refusal::LinkCount);
         }
         check_links(sites, links)?;
         Ok(Network {
@@ -87,4 +86,10 @@ fn stored<K: WeightKind>(links: &[Link<K>]) -> [Link<K>; 512]
         places[number] = links[number];
     }
     places
+}
+
+/// The rules of opening refuse nothing but what is wrong, and of faulty links the first.
+fn opening_rules_stand<K: WeightKind>()
+    ensures { λ _. ⌜ OpeningLaws K ⌝ }
+{
 }

@@ -29,7 +29,7 @@ impl Layer {
 }
 
 /// Everything that is refused; each case carries the values that its place is made of.
-#[derive(Clone, Copy, Debug)]
+#[derive(Clone, Copy)]
 pub enum Refusal {
     /// The sheet has only so many bytes, fewer than its header.
     ShortSheet(usize),
@@ -39,10 +39,14 @@ pub enum Refusal {
     UnknownVersion,
     /// The kind byte is not the letter of the kind that is read.
     OtherKind,
-    /// The number of sites is not 1 to 64.
-    SiteCount(Layer),
-    /// There are more than 512 links.
-    LinkCount(Layer),
+    /// The sheet says another number of sites than 1 to 64.
+    SheetSiteCount,
+    /// Records are opened or written for another number of sites than 1 to 64.
+    SiteCount,
+    /// The sheet says more than 512 links.
+    SheetLinkCount,
+    /// More than 512 records are opened or written.
+    LinkCount,
     /// The length field does not fit the number of links.
     WrongRecords,
     /// An end of this link is no site.
@@ -59,8 +63,10 @@ pub enum Refusal {
     NotListed,
     /// The row's entry at this index is no record's number, or a 64th.
     BadEntry(usize),
-    /// The sites are not joined.
-    NotJoined(Layer),
+    /// The sites of the network that is tried are not joined.
+    TrialNotJoined,
+    /// The sites of the walk's network are not joined.
+    NotJoined,
     /// No row follows.
     NoRowFollows,
     /// The walk is not on a row yet.
@@ -87,10 +93,10 @@ impl Refusal {
             Refusal::WrongLength => (Layer::Sheet, 2, 0),
             Refusal::UnknownVersion => (Layer::Sheet, 3, 4),
             Refusal::OtherKind => (Layer::Sheet, 4, 5),
-            Refusal::SiteCount(Layer::Sheet) => (Layer::Sheet, 5, 6),
-            Refusal::SiteCount(layer) => (layer, 5, 0),
-            Refusal::LinkCount(Layer::Sheet) => (Layer::Sheet, 6, 7),
-            Refusal::LinkCount(layer) => (layer, 6, 0),
+            Refusal::SheetSiteCount => (Layer::Sheet, 5, 6),
+            Refusal::SiteCount => (Layer::Network, 5, 0),
+            Refusal::SheetLinkCount => (Layer::Sheet, 6, 7),
+            Refusal::LinkCount => (Layer::Network, 6, 0),
             Refusal::WrongRecords => (Layer::Sheet, 7, 7),
             Refusal::NoSuchSite(link) => (Layer::Network, 8, link),
             Refusal::SelfLink(link) => (Layer::Network, 9, link),
@@ -99,7 +105,8 @@ impl Refusal {
             Refusal::UnknownClass => (Layer::Network, 12, 0),
             Refusal::NotListed => (Layer::Walk, 13, 0),
             Refusal::BadEntry(index) => (Layer::Network, 14, index),
-            Refusal::NotJoined(layer) => (layer, 15, 0),
+            Refusal::TrialNotJoined => (Layer::Network, 15, 0),
+            Refusal::NotJoined => (Layer::Walk, 15, 0),
             Refusal::NoRowFollows => (Layer::Walk, 16, 0),
             Refusal::NotOnRow => (Layer::Walk, 17, 0),
             Refusal::NotInRow(link) => (Layer::Walk, 18, link as usize),

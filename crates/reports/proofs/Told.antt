@@ -1,4 +1,4 @@
--- From what loading gave to what is answered. Assumes nothing.
+-- From what loading gave to what is answered.
 use mathlib.Core.Path.{_≡_, refl, sym, ap, subst, _∙_}
 use mathlib.Core.List.{List}
 use Prim.Native.Nat.{ℕ}

@@ -1,4 +1,4 @@
--- What is answered to a sheet. Assumes nothing.
+-- What is answered to a sheet.
 use mathlib.Core.Path.{_≡_}
 use mathlib.Core.Bool.{cond}
 use mathlib.Core.List.{List, _++_}
@@ -26,11 +26,11 @@ use Rattle.weights.specs.declared.pairs.Pair.{Pair}
 use Rattle.reports.specs.declared.answers.Answer.{Answer}
 use Rattle.reports.specs.declared.answers.Answer.the-variants.{Sound, Refused}
 use Rattle.reports.specs.declared.answers.Kind.{Kind}
-use Rattle.reports.specs.declared.answers.Kind.the-variants.{Metres as metres, CrossedMetres as crossed}
+use Rattle.reports.specs.declared.answers.Kind.the-variants.{Metres as metres, CrossingsMetres as crossings}
 
 -- P where byte 5 is hexadecimal 50, and W otherwise
 abbrev pub kindOf : List ℕ → Kind
-kindOf sheet = cond (eqb (getD sheet 5 0) 80) crossed metres
+kindOf sheet = cond (eqb (getD sheet 5 0) 80) crossings metres
 
 -- the answer is a refusal with this report
 abbrev pub RefusedWith : Answer → Report → Type 0
@@ -53,13 +53,13 @@ AnswersKind letter width bytes sheet a =
 abbrev pub metresBytes : Metres → List ℕ
 metresBytes w = be32 (w .0)
 
-abbrev pub crossedBytes : Pair Crossings Metres → List ℕ
-crossedBytes w = be16 (w .first .0) ++ be32 (w .second .0)
+abbrev pub crossingsBytes : Pair Crossings Metres → List ℕ
+crossingsBytes w = be16 (w .first .0) ++ be32 (w .second .0)
 
 -- the answer to a sheet, read as the kind that its byte 5 says
 abbrev pub AnswersAs : Kind → List ℕ → Answer → Type 0
 AnswersAs metres sheet a = AnswersKind 87 4 metresBytes sheet a
-AnswersAs crossed sheet a = AnswersKind 80 6 crossedBytes sheet a
+AnswersAs crossings sheet a = AnswersKind 80 6 crossingsBytes sheet a
 
 abbrev pub Answers : List ℕ → Answer → Type 0
 Answers sheet a = AnswersAs (kindOf sheet) sheet a

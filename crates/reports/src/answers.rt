@@ -3,12 +3,12 @@
 use networks::Refusal;
 
 /// How a sheet is read.
-#[derive(Clone, Copy, PartialEq, Eq, Debug)]
+#[derive(Clone, Copy)]
 pub enum Kind {
     /// Kind W: metres.
     Metres,
     /// Kind P: crossings, and then metres.
-    CrossedMetres,
+    CrossingsMetres,
 }
 
 /// The answer to a sheet: its sites and links, or why it is refused.

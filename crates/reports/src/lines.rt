@@ -4,14 +4,14 @@ ghost use Prim.Native.Nat.{ℕ};
 ghost use mathlib.Core.Path.{_≡_};
 ghost use Rattle.std.specs.declared.option.Option.the-variants.{Some};
 ghost use Rattle.reports.specs.Answers.{kindOf, Answers, AnswersAs, lineOfAnswer, toldOf};
-ghost use Rattle.reports.specs.declared.answers.Kind.the-variants.{Metres as metres, CrossedMetres as crossed};
+ghost use Rattle.reports.specs.declared.answers.Kind.the-variants.{Metres as metres, CrossingsMetres as crossings};
 use crate::answers::Answer;
 use crate::answers::Kind;
 use networks::Link;
 use networks::Network;
 use networks::Refusal;
 use networks::RefusalDisplay;
-use sheets::CrossedMetresSheet;
+use sheets::CrossingsMetresSheet;
 use sheets::MetresSheet;
 use sheets::SheetKind;
 use sheets::load;
@@ -28,7 +28,7 @@ pub fn kind_of(sheet: &[u8]) -> Kind
     ensures { λ r. ⌜ r ≡ kindOf (now (sheet .entry)) ⌝ }
 {
     if sheet.len() > 5 && sheet[5] == b'P' {
-        Kind::CrossedMetres
+        Kind::CrossingsMetres
     } else {
         Kind::Metres
     }
@@ -40,7 +40,7 @@ pub fn answer(sheet: &[u8]) -> Answer
 {
     match kind_of(sheet) {
         Kind::Metres => answer_metres(sheet),
-        Kind::CrossedMetres => answer_crossed(sheet),
+        Kind::CrossingsMetres => answer_crossings(sheet),
     }
 }
 
@@ -56,8 +56,8 @@ fn answer_metres(sheet: &[u8]) -> Answer
     told(load(sheet, &mut links))
 }
 
-fn answer_crossed(sheet: &[u8]) -> Answer
-    ensures { λ r. ⌜ AnswersAs crossed (now (sheet .entry)) r ⌝ }
+fn answer_crossings(sheet: &[u8]) -> Answer
+    ensures { λ r. ⌜ AnswersAs crossings (now (sheet .entry)) r ⌝ }
 {
     let blank = Link {
         from: 0,

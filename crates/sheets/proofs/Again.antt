@@ -1,6 +1,6 @@
 -- What is read can be written again, and what is written can be read again: sheets and links determine each other.
 -- A record has a fixed number of bytes, so equal bytes cut into equal records, and a record's bytes determine its ends
--- and its weight. Assumes nothing.
+-- and its weight.
 use mathlib.Core.Path.{_≡_, refl, sym, ap, _∙_}
 use mathlib.Core.Bool.{Bool, true, not, _&&_}
 use mathlib.Core.List.{List, [], _∷_, _++_}

@@ -1,4 +1,4 @@
--- A number that bytes write is written by the same bytes. Assumes nothing.
+-- A number that bytes write is written by the same bytes.
 use mathlib.Core.Path.{_≡_, refl, sym, ap, _∙_}
 use mathlib.Core.List.{List, [], _∷_, _++_}
 use Prim.Native.Nat.{ℕ, _+_, _*_, _/_, _%_, _≤_, _<_}

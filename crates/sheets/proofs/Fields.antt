@@ -1,4 +1,4 @@
--- What a header says that no rule refuses. Assumes nothing.
+-- What a header says that no rule refuses.
 use mathlib.Core.Path.{_≡_}
 use mathlib.Core.Bool.{Bool, not, _&&_}
 use Prim.Native.Nat.{ℕ, _+_, _*_, _-_, _≤_}

@@ -1,4 +1,4 @@
--- A sheet from its parts. Assumes nothing.
+-- A sheet from its parts.
 use mathlib.Core.Path.{_≡_, refl, sym, ap, _∙_}
 use mathlib.Core.List.{List, [], _∷_, _++_}
 use Prim.Native.Nat.{ℕ, _+_, _*_, _≤_, _<_}

@@ -1,4 +1,4 @@
--- What is taken off the front of a sheet. Assumes nothing.
+-- What is taken off the front of a sheet.
 use mathlib.Core.Path.{_≡_}
 use mathlib.Core.List.{List}
 use Prim.Native.Nat.{ℕ, _≤_}

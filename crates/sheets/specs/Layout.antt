@@ -1,4 +1,4 @@
--- The layout of a sheet. Assumes nothing.
+-- The layout of a sheet.
 use mathlib.Core.List.{List, [], _∷_, _++_}
 use Prim.Native.Nat.{ℕ, _+_, _*_}
 use lib.ListN.{length, getD}

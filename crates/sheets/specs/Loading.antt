@@ -1,4 +1,4 @@
--- What loading makes of a sheet that is read. Assumes nothing.
+-- What loading makes of a sheet that is read.
 use mathlib.Core.Path.{_≡_}
 use mathlib.Core.Bool.{false}
 use mathlib.Core.List.{List, _++_}

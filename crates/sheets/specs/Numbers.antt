@@ -1,4 +1,4 @@
--- Numbers on a sheet, the most significant byte first. Assumes nothing.
+-- Numbers on a sheet, the most significant byte first.
 use mathlib.Core.List.{List, [], _∷_}
 use Prim.Native.Nat.{ℕ, _+_, _*_, _/_, _%_}
 

@@ -1,4 +1,4 @@
--- When a sheet is refused. Assumes nothing.
+-- When a sheet is refused.
 use mathlib.Core.Bool.{not, _&&_}
 use mathlib.Core.List.{List, [], _∷_}
 use Prim.Native.Nat.{ℕ, _+_, _*_, _-_}

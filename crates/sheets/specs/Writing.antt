@@ -1,4 +1,4 @@
--- When links are not written. Assumes nothing.
+-- When links are not written.
 use mathlib.Core.Bool.{not, _&&_}
 use mathlib.Core.List.{List, [], _∷_}
 use Prim.Native.Nat.{ℕ, _+_, _*_}

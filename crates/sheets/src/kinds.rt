@@ -14,8 +14,8 @@ use weights::Pair;
 use weights::PairKind;
 use weights::WeightKind;
 
-/// A weight kind with a letter, and with bytes for each weight: as many for every weight, and other bytes for another
-/// weight.
+/// A weight kind with a letter, and with bytes for each weight. Every weight has the same number of bytes, and different
+/// weights have different bytes.
 pub trait SheetKind: WeightKind {
     /// The byte that names the kind on a sheet.
     ghost letter: { ℕ };
@@ -77,7 +77,7 @@ pub impl SheetKind for Metres as MetresSheet {
 }
 
 /// Kind P: two bytes of crossings and four of metres.
-pub impl SheetKind for Pair<Crossings, Metres> as CrossedMetresSheet {
+pub impl SheetKind for Pair<Crossings, Metres> as CrossingsMetresSheet {
     ghost letter = { 80 };
 
     ghost width = { 6 };

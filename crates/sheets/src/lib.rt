@@ -6,7 +6,7 @@ mod reader;
 pub mod reading;
 pub mod writing;
 
-pub use kinds::CrossedMetresSheet;
+pub use kinds::CrossingsMetresSheet;
 pub use kinds::MetresSheet;
 pub use kinds::SheetKind;
 pub use loading::load;

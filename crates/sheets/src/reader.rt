@@ -94,7 +94,9 @@ impl Reader<'_> {
     /// Fills the links with the records of a sheet, of which there are as many.
     pub(crate) fn fill<K: SheetKind>(&mut self, links: &mut [Link<K>])
         requires { ⌜ now self .offset ≡ 0 ⌝ ∗ ⌜ length (now (now self .bytes)) ≡ length (now links) * (2 + width) ⌝ }
-        ensures { λ _. ⌜ joined (recordOf bytes) (now (links .exit)) ≡ now (now (self .entry) .bytes) ⌝ }
+        ensures fills { λ _. ⌜ joined (recordOf bytes) (now (links .exit)) ≡ now (now (self .entry) .bytes) ⌝ }
+        ensures offset { λ _. ⌜ now (self .exit) .offset ≡ length (now (now (self .exit) .bytes)) ⌝ }
+        ensures same { λ _. ⌜ now (now (self .exit) .bytes) ≡ now (now (self .entry) .bytes) ⌝ }
     {
         for link in links.iter_mut() {
             *link = self.record();

@@ -17,7 +17,7 @@ use networks::Link;
 use networks::Refusal;
 
 /// How many sites and links a sheet has.
-#[derive(Clone, Copy, PartialEq, Eq, Debug)]
+#[derive(Clone, Copy)]
 pub struct Counts {
     pub sites: u8,
     pub links: u16,
@@ -31,7 +31,7 @@ pub fn read<K: SheetKind>(sheet: &[u8], links: &mut [Link<K>]) -> Result<Counts,
     ensures fills { λ r. ⌜ made r (λ n. n .links ≤ length (now (links .exit))) ⌝ }
     ensures leaves { λ r. ⌜ made r (λ n. drop (n .links) (now (links .exit)) ≡ drop (n .links) (now (links .entry))) ⌝ }
     ensures keeps { λ r. ⌜ refused r (λ _. now (links .exit) ≡ now (links .entry)) ⌝ }
-    // What was read is written again, into as many bytes.
+    // `write` takes what was read, given as many bytes as the sheet has.
     ensures accepted { λ r. ⌜ made r (λ n. firstOf (writeRules width (n .sites) (length (take (n .links) (now (links .exit)))) (length (now (sheet .entry)))) ≡ None) ⌝ }
 {
     let Some((header, mut records)) = take_header(sheet) else {
@@ -47,7 +47,7 @@ pub fn read<K: SheetKind>(sheet: &[u8], links: &mut [Link<K>]) -> Result<Counts,
     })
 }
 
-/// Refuses what no sheet of this kind and size says of itself, and more links than there is room for.
+/// Refuses a header that does not fit the kind or the size of the sheet, and more links than there is room for.
 fn check_fields<K: SheetKind>(header: &Header, size: usize, room: usize) -> Result<(), Refusal>
     ensures { λ r. ⌜ refusalOf r ≡ firstOf (fieldRules letter width size room (now (header .entry))) ⌝ }
 {
@@ -63,10 +63,10 @@ fn check_fields<K: SheetKind>(header: &Header, size: usize, room: usize) -> Resu
         return Err(Refusal::OtherKind);
     }
     if header.sites < 1 || header.sites > 64 {
-        return Err(Refusal::SiteCount(Layer::Sheet));
+        return Err(Refusal::SheetSiteCount);
     }
     if links > 512 {
-        return Err(Refusal::LinkCount(Layer::Sheet));
+        return Err(Refusal::SheetLinkCount);
     }
     if length != 5 + links * (2 + K::weight_width() as usize) {
         return Err(Refusal::WrongRecords);

@@ -24,16 +24,16 @@ pub fn write<K: SheetKind>(sites: u8, links: &[Link<K>], sheet: &mut [u8]) -> Re
     ensures len { λ r. ⌜ made r (λ n. n ≡ length (sheetOf letter width bytes sites (now (links .entry)))) ⌝ }
     ensures writes { λ r. ⌜ made r (λ n. now (sheet .exit) ≡ sheetOf letter width bytes sites (now (links .entry)) ++ drop n (now (sheet .entry))) ⌝ }
     ensures keeps { λ r. ⌜ refused r (λ _. now (sheet .exit) ≡ now (sheet .entry)) ⌝ }
-    // What is written is read again, by whoever has room for the links, and no other links are written so.
+    // `read` takes what was written, given room for the links; and no other links have the same sheet.
     ensures accepted { λ r. ⌜ made r (λ _. (room : ℕ) → length (now (links .entry)) ≤ room → firstOf (readRules letter width (sheetOf letter width bytes sites (now (links .entry))) room) ≡ None) ⌝ }
     ensures alone { λ r. ⌜ made r (λ _. (n : ℕ) (others : List (Link K)) → sheetOf letter width bytes n others ≡ sheetOf letter width bytes sites (now (links .entry)) → (n ≡ sites) × (others ≡ now (links .entry))) ⌝ }
 {
     if sites < 1 || sites > 64 {
-        return Err(Refusal::SiteCount(Layer::Network));
+        return Err(Refusal::SiteCount);
     }
     let count = links.len();
     if count > 512 {
-        return Err(Refusal::LinkCount(Layer::Network));
+        return Err(Refusal::LinkCount);
     }
     let size = 9 + count * (2 + K::weight_width() as usize);
     if sheet.len() < size {

@@ -1,4 +1,4 @@
--- What a lawful scale gives: every amount is at most itself, and what is not at most is more. Assumes nothing.
+-- What a lawful scale gives: every amount is at most itself, and what is not at most is more.
 use mathlib.Core.Path.{_≡_, subst}
 use mathlib.Core.Bool.{Bool, true, false}
 use mathlib.Core.Logic.{_⊎_, ⊎-elim}

@@ -1,6 +1,6 @@
 -- The scale of pairs keeps the laws that its two sides keep.
 -- A comparison of pairs is one of three: the first sides are equal and the second decide, or the first are less, or
--- they are more. Each law is proved by these cases. Assumes nothing.
+-- they are more. Each law is proved by these cases.
 use mathlib.Core.Path.{_≡_, refl, sym, ap, subst, _∙_}
 use mathlib.Core.Bool.{Bool, true, false, cond, _&&_}
 use mathlib.Core.Logic.{_⊎_, inl, inr, ⊎-elim}

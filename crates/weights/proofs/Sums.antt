@@ -1,4 +1,4 @@
--- Sums of amounts, one more at a time. Assumes nothing.
+-- Sums of amounts, one more at a time.
 use mathlib.Core.Path.{_≡_, refl, sym, ap, _∙_}
 use mathlib.Core.List.{List, [], _∷_, _++_}
 use Rattle.weights.specs.Scales.{Scale, Lawful, sumOf}

@@ -1,4 +1,4 @@
--- The two scales that weights are measured on: natural numbers, and pairs of amounts. Assumes nothing.
+-- The two scales that weights are measured on: natural numbers, and pairs of amounts.
 use mathlib.Core.Bool.{Bool, cond, _&&_}
 use Prim.Native.Nat.{ℕ, _+_}
 use lib.Dec.{leb}

@@ -1,4 +1,4 @@
--- Scales of amounts, and the laws that every scale keeps. Assumes nothing.
+-- Scales of amounts, and the laws that every scale keeps.
 use mathlib.Core.Path.{_≡_}
 use mathlib.Core.Bool.{Bool, true, false}
 use mathlib.Core.Logic.{_⊎_}
@@ -15,7 +15,7 @@ pub record Scale : Type 1 where
 pub record Lawful (s : Scale) : Type 0 where
   -- of two amounts one is at most the other
   pub total : (a b : s .Amount) → (s .le a b ≡ true) ⊎ (s .le b a ≡ true)
-  -- both hold only for one and the same amount
+  -- two amounts that are at most one another are the same amount
   pub antisym : (a b : s .Amount) → s .le a b ≡ true → s .le b a ≡ true → a ≡ b
   pub trans : (a b c : s .Amount) → s .le a b ≡ true → s .le b c ≡ true → s .le a c ≡ true
   -- zero adds nothing

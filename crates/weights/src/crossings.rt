@@ -6,7 +6,7 @@ ghost use Rattle.weights.specs.Amounts.{numbers};
 use crate::kinds::WeightKind;
 
 /// A number of crossings.
-#[derive(Clone, Copy, PartialEq, Eq, Debug)]
+#[derive(Clone, Copy)]
 pub struct Crossings(pub u16);
 
 /// The sum of up to 63 such numbers.
@@ -35,6 +35,8 @@ pub impl WeightKind for Crossings as CrossingsKind {
     type Total = CrossingsTotal;
 
     ghost held = { λ t. t .count };
+
+    ghost level = { λ _. Unit {0} };
 
     ghost sum = { λ t. t .crossings };
 

@@ -26,6 +26,9 @@ pub trait WeightKind: Copy {
     /// The sum of their amounts.
     ghost sum: { Self·Total → scale .Amount };
 
+    /// A total that is made of weights added one by one: those of a pair then have as many on either side.
+    ghost level: { Self·Total → Type 0 };
+
     law few: { (t : Self·Total) → held t ≤ 63 };
 
     /// Whether this weight's amount is at most the other's.
@@ -39,7 +42,8 @@ pub trait WeightKind: Copy {
     /// The total of no weights.
     fn nothing() -> Self::Total
         ensures held { λ r. ⌜ held r ≡ 0 ⌝ }
-        ensures sum { λ r. ⌜ sum r ≡ scale .zero ⌝ };
+        ensures sum { λ r. ⌜ sum r ≡ scale .zero ⌝ }
+        ensures level { λ r. ⌜ level r ⌝ };
 
     /// How many weights were added.
     fn count(total: &Self::Total) -> u8
@@ -49,6 +53,7 @@ pub trait WeightKind: Copy {
     fn add(total: &mut Self::Total, weight: Self)
         ensures counts { λ _. ⌜ (held (now (total .entry)) < 63 → held (now (total .exit)) ≡ held (now (total .entry)) + 1) ⌝ }
         ensures adds { λ _. ⌜ (held (now (total .entry)) < 63 → sum (now (total .exit)) ≡ scale .add (sum (now (total .entry))) (amount weight)) ⌝ }
+        ensures level { λ _. ⌜ (level (now (total .entry)) → level (now (total .exit))) ⌝ }
         ensures full { λ _. ⌜ (63 ≤ held (now (total .entry)) → now (total .exit) ≡ now (total .entry)) ⌝ };
 
     /// Whether the first total is at most the second, by their sums alone.

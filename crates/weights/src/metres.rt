@@ -36,6 +36,8 @@ pub impl WeightKind for Metres as MetresKind {
 
     ghost held = { λ t. t .count };
 
+    ghost level = { λ _. Unit {0} };
+
     ghost sum = { λ t. t .metres };
 
     fn at_most(&self, other: &Metres) -> bool {

@@ -6,13 +6,13 @@ ghost use Rattle.weights.specs.Amounts.{pairs};
 use crate::kinds::WeightKind;
 
 /// Two weights, the deciding one first.
-#[derive(Clone, Copy, PartialEq, Eq, Debug)]
+#[derive(Clone, Copy)]
 pub struct Pair<P, Q> {
     pub first: P,
     pub second: Q,
 }
 
-/// The totals of both sides. It has as many weights as its fuller side; both sides are added to together.
+/// The totals of both sides. It has as many weights as its fuller side.
 #[derive(Clone, Copy)]
 pub struct PairTotal<A, B> {
     firsts: A,
@@ -43,6 +43,8 @@ pub impl<P: WeightKind, Q: WeightKind> WeightKind for Pair<P, Q> as PairKind {
     type Total = PairTotal<P::Total, Q::Total>;
 
     ghost held = { λ t. max (P·WeightKind .held (t .firsts)) (Q·WeightKind .held (t .seconds)) };
+
+    ghost level = { λ t. (P·WeightKind .level (t .firsts)) × (Q·WeightKind .level (t .seconds)) × (P·WeightKind .held (t .firsts) ≡ Q·WeightKind .held (t .seconds)) };
 
     ghost sum = { λ t. (P·WeightKind .sum (t .firsts), Q·WeightKind .sum (t .seconds)) };
 

@@ -17,6 +17,7 @@ returns-then-index-ge63 g c =
       refuses = sym (c .loop-index .inv .0 ∙ price-stops (length (c .args .links .now)) (c .loop-index .index) (c .args .row .now) (c .loop-index-test .taken)
           (⊎-elim (λ a. inl a) (λ b. inr (b .1)) (c .then-index-ge63 .either)));
       sums = tt;
+      level = tt;
       counts = tt;
     }
 
@@ -33,8 +34,9 @@ loop-index-again g c =
       c .loop-index .inv .0 ∙ price-goes (length links) index row (c .loop-index-test .taken) (c .if-index-ge63 .left) (c .if-link-links .left),
       (let b = c .if-index-ge63 .left in omega arith),
       (c .add .ensures .counts room ∙ ap (λ n. n + 1) (c .loop-index .inv .2)),
+      c .add .ensures .level (c .loop-index .inv .3),
       sum-more (k .scale) (g .K·WeightKind·met .lawful) w row index (k .sum (c .loop-index .total)) (k .sum (c .add .last .total)) (w link)
-          (c .loop-index-test .taken) (c .loop-index .inv .3) (c .add .ensures .adds room ∙ ap (k .scale .add (k .sum (c .loop-index .total))) (sym weight)) refl,
+          (c .loop-index-test .taken) (c .loop-index .inv .4) (c .add .ensures .adds room ∙ ap (k .scale .add (k .sum (c .loop-index .total))) (sym weight)) refl,
     )
 
 pub returns : need.returns
@@ -43,6 +45,7 @@ returns g c =
     let w : ℕ → k .scale .Amount = weightOf (k .scale) (k .amount) (c .args .links .now) in
     record {
       refuses = sym (c .loop-index .inv .0 ∙ price-ends (length (c .args .links .now)) (c .loop-index .index) (c .args .row .now) (c .loop-index-test .left));
-      sums = c .loop-index .inv .3 ∙ ap (λ xs. sumOf (k .scale) (map w xs)) (take-all (c .loop-index .index) (c .args .row .now) (c .loop-index-test .left));
+      sums = c .loop-index .inv .4 ∙ ap (λ xs. sumOf (k .scale) (map w xs)) (take-all (c .loop-index .index) (c .args .row .now) (c .loop-index-test .left));
+      level = c .loop-index .inv .3;
       counts = c .loop-index .inv .2 ∙ omega arith;
     }

@@ -15,4 +15,5 @@ Inv-loop-index g l =
     (firstOf (priceRules (length (l .links)) 0 (l .row)) ≡ firstOf (priceRules (length (l .links)) (l .index) (drop (l .index) (l .row))))
     × (l .index ≤ 63)
     × (k .held (l .total) ≡ l .index)
+    × k .level (l .total)
     × (k .sum (l .total) ≡ sumOf (k .scale) (map (weightOf (k .scale) (k .amount) (l .links)) (take (l .index) (l .row))))

@@ -8,7 +8,7 @@ use mathlib.Core.Path.{ap}
 use lib.ListN.{take, drop}
 use Rattle.sheets.specs.Numbers.{be16, be32}
 use Rattle.sheets.proofs.BigEndian.{be16-at, be32-at}
-use Rattle.sheets.proofs.kinds.CrossedMetresSheet.decode.Needs as need
+use Rattle.sheets.proofs.kinds.CrossingsMetresSheet.decode.Needs as need
 
 pub returns-in-len6 : need.returns-in-len6
 returns-in-len6 c =
