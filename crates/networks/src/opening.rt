@@ -91,5 +91,4 @@ fn stored<K: WeightKind>(links: &[Link<K>]) -> [Link<K>; 512]
 /// The rules of opening refuse nothing but what is wrong, and of faulty links the first.
 fn opening_rules_stand<K: WeightKind>()
     ensures { λ _. ⌜ OpeningLaws K ⌝ }
-{
-}
+{}

@@ -35,5 +35,4 @@ pub fn price<K: WeightKind>(links: &[Link<K>], row: &[u16]) -> Result<K::Total, 
 /// The rules of a price refuse nothing but what is wrong, and of faulty entries the first.
 fn pricing_rules_stand()
     ensures { λ _. ⌜ PricingLaws ⌝ }
-{
-}
+{}

@@ -43,7 +43,7 @@ back-16 : (n : ℕ) → n / 256 * 256 + n % 256 ≡ n
 back-16 n = omega arith
 
 -- no rule refuses a header that is sound
-accepted-fields : (letter width size room : ℕ) (h : Header) → Sound letter width size room h → firstOf (fieldRules letter width size room h) ≡ None
+accepted-fields : (letter width size room : ℕ) (h : Header) → Sound letter width size room h → firstOf (fieldRules letter width size room (h .length) (h .version) (h .kind) (h .sites) (h .links)) ≡ None
 accepted-fields letter width size room h s =
     cond-false _ _ _ (not-from-true _ (eq-eqb (h .length) (size - 4) (s .counted)))
     ∙ cond-false _ _ _ (not-from-true _ (eq-eqb (h .version) 1 (s .version)))

@@ -20,7 +20,7 @@ pub record Sound (letter width size room : ℕ) (h : Header) : Type 0 where
   pub records : h .length ≡ 5 + h .links * (2 + width)
   pub fits : h .links ≤ room
 
-pub sound-fields : (letter width size room : ℕ) (h : Header) → firstOf (fieldRules letter width size room h) ≡ None → Sound letter width size room h
+pub sound-fields : (letter width size room : ℕ) (h : Header) → firstOf (fieldRules letter width size room (h .length) (h .version) (h .kind) (h .sites) (h .links)) ≡ None → Sound letter width size room h
 sound-fields letter width size room h e =
     let a = passed (not (eqb (h .length) (size - 4))) _ _ e in
     let b = passed (not (eqb (h .version) 1)) _ _ (a .1) in

@@ -49,7 +49,7 @@ pub fn read<K: SheetKind>(sheet: &[u8], links: &mut [Link<K>]) -> Result<Counts,
 
 /// Refuses a header that does not fit the kind or the size of the sheet, and more links than there is room for.
 fn check_fields<K: SheetKind>(header: &Header, size: usize, room: usize) -> Result<(), Refusal>
-    ensures { λ r. ⌜ refusalOf r ≡ firstOf (fieldRules letter width size room (now (header .entry))) ⌝ }
+    ensures { λ r. ⌜ refusalOf r ≡ firstOf (fieldRules letter width size room (now (header .entry) .length) (now (header .entry) .version) (now (header .entry) .kind) (now (header .entry) .sites) (now (header .entry) .links)) ⌝ }
 {
     let length = header.length as usize;
     let links = header.links as usize;

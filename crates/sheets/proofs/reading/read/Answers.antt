@@ -9,6 +9,7 @@ use Rattle.std.proofs.shelf.Lists.{length-take-le, length-drop, drop-at, take-a
 use Rattle.std.proofs.shelf.Tests.{cond-false, le-ltb}
 use Rattle.networks.specs.Refusals.{firstOf}
 use Rattle.sheets.specs.Reading.{fieldRules}
+use Rattle.sheets.specs.declared.reader.Header.{Header}
 use Rattle.sheets.proofs.Fields.{Sound, sound-fields}
 use Rattle.sheets.proofs.Again.{read-accepted}
 use Rattle.sheets.proofs.Whole.{read-whole}
@@ -42,9 +43,9 @@ returns g c =
     let many : length filled ≡ h .links =
     c .fill .kept .links ∙ ap (λ n. length (take n links)) (omega arith) ∙ length-take-le (h .links) links (sound .fits) in
     record {
-      refuses = sym (cond-false _ _ _ (le-ltb (length sheet) 9 (taken .long)) ∙ ap (λ x. firstOf (fieldRules (k .letter) (k .width) (length sheet) (length links) x)) (sym (taken .fields)) ∙ none);
+      refuses = sym (cond-false _ _ _ (le-ltb (length sheet) 9 (taken .long)) ∙ ap (λ (x : Header). firstOf (fieldRules (k .letter) (k .width) (length sheet) (length links) (x .length) (x .version) (x .kind) (x .sites) (x .links))) (sym (taken .fields)) ∙ none);
       reads = read-whole (k .letter) (k .width) (k .bytes) sheet (c .in-Some .records .bytes .now) (c .in-Some .records .offset) (length sheet) (length links) h filled _
-          (λ i. omega (arith, c .typed .sheet i)) taken sound many (c .fill .ensures);
+          (λ i. omega (arith, c .typed .sheet i)) taken sound many (c .fill .ensures .fills);
       fills = omega (arith, length-append filled (postOf 0 (h .links - 0) links));
       leaves = drop-at filled _ (h .links) many ∙ ap (λ n. drop n links) (omega arith);
       keeps = tt;

@@ -43,4 +43,9 @@ returns g c =
     let ended : length links ≤ i = omega arith in
     let whole : i ≡ length (c .args .links .now) = omega arith in
     let all : length bytes ≡ i * r = c .pre .1 ∙ ap (λ n. n * r) (sym whole) in
-    sym (ap (joined (recordOf (k .bytes))) (take-all i links ended)) ∙ c .loop-link .inv .2 ∙ take-all (i * r) bytes (omega arith)
+    let same : c .loop-link .self .bytes .now ≡ bytes = c .loop-link .inv .0 in
+    record {
+      fills = sym (ap (joined (recordOf (k .bytes))) (take-all i links ended)) ∙ c .loop-link .inv .2 ∙ take-all (i * r) bytes (omega arith);
+      offset = c .loop-link .inv .1 ∙ sym all ∙ sym (ap length same);
+      same = same;
+    }
