@@ -3,4 +3,5 @@
 mod edges;
 mod networks_of_records;
 mod outcomes;
+pub mod statements;
 mod totals;
