@@ -1,5 +1,7 @@
+pub mod Alike
 pub mod Counts
 pub mod Faults
+pub mod Filled
 pub mod Injections
 pub mod Marks
 pub mod Order
