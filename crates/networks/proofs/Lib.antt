@@ -1,6 +1,8 @@
+pub mod Alike
 pub mod Counts
 pub mod Faults
 pub mod FirstFaults
+pub mod Filled
 pub mod Injections
 pub mod Marks
 pub mod Order

@@ -1,6 +1,5 @@
 pub mod Refusals
 pub mod Links
-pub mod Ranks
 pub mod Pricing
 pub mod Closures
 pub mod Networks

@@ -2,7 +2,9 @@
 use mathlib.Core.Bool.{Bool}
 use mathlib.Core.List.{List}
 use Prim.Native.Nat.{ℕ}
-use lib.ListN.{take}
+use lib.ListN.{length, take}
+use Rattle.forests.specs.Graphs.{Graph}
+use Rattle.networks.specs.Links.{fromOf, toOf, openBelow}
 use Rattle.networks.specs.Closures.{closedAt}
 use Rattle.networks.specs.declared.links.Link.{Link}
 use Rattle.networks.specs.declared.networks.Network.{Network}
@@ -18,6 +20,17 @@ module _ {K : Type 0} where
 
   abbrev pub closedIn : Network K → ℕ → Bool
   closedIn n e = closedAt (n .closed) e
+
+module _ {K : Type 0} where
+  -- the graph of a network: its open links may be chosen
+  abbrev pub networkGraph : Network K → Graph
+  networkGraph n = record {
+    sites = sitesOf n;
+    links = length (linksOf n);
+    from = fromOf (linksOf n);
+    to = toOf (linksOf n);
+    usable = openBelow (n .closed) (length (linksOf n));
+  }
 
 -- the link numbers in rank order
 abbrev pub numbersOf : RankOrder → List ℕ

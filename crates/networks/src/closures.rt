@@ -1,9 +1,7 @@
 //! The record of closed links.
 
-ghost use Prim.Native.Nat.{ℕ};
-ghost use mathlib.Core.Bool.{false};
 ghost use mathlib.Core.Path.{_≡_};
-ghost use Rattle.networks.specs.Closures.{closedAt};
+ghost use Rattle.networks.specs.Closures.{closedAt, noneClosed};
 
 /// Which link numbers are closed. It knows no weights, so that one record serves networks of every kind.
 #[derive(Clone, Copy)]
@@ -14,7 +12,7 @@ pub struct Closed {
 impl Closed {
     /// Every link is open.
     pub fn none() -> Closed
-        ensures { λ r. ⌜ ((e : ℕ) → closedAt r e ≡ false) ⌝ }
+        ensures { λ r. ⌜ r ≡ noneClosed ⌝ }
     {
         Closed {
             marks: [false; 512],

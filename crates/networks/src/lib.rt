@@ -6,6 +6,7 @@ pub mod links;
 pub mod networks;
 pub mod opening;
 pub mod orders;
+mod plans;
 pub mod pricing;
 pub mod ranking;
 pub mod refusals;

@@ -1,11 +1,12 @@
 //! Opening records as a network, and what a network gives back.
 
 ghost use Prim.Native.Nat.{ℕ, _≤_};
-ghost use mathlib.Core.Bool.{false};
+ghost use mathlib.Core.Bool.{true, false};
 ghost use mathlib.Core.Path.{_≡_};
 ghost use lib.ListN.{length, take};
 ghost use Rattle.std.specs.Vec.{made};
 ghost use Rattle.networks.specs.Closures.{closedAt};
+ghost use Rattle.networks.specs.Links.{sound};
 ghost use Rattle.networks.specs.Networks.{sitesOf, linksOf, closedIn};
 ghost use Rattle.networks.specs.Opening.{openRules, linkRules, OpeningLaws};
 ghost use Rattle.networks.specs.Refusals.{refusalOf, firstOf};
@@ -34,7 +35,7 @@ impl<K: WeightKind> Network<K> {
             sites,
             count: links.len(),
             links: stored(links),
-            closed: Closed::none(),
+            closed: all_open(),
         })
     }
 
@@ -49,6 +50,7 @@ impl<K: WeightKind> Network<K> {
     pub fn links(&self) -> &[Link<K>]
         ensures value { λ r. ⌜ now r ≡ linksOf (now (self .entry)) ⌝ }
         ensures few { λ r. ⌜ length (now r) ≤ 512 ⌝ }
+        ensures len { λ r. ⌜ length (now r) ≡ now (self .entry) .count ⌝ }
     {
         let places = &self.links[..];
         &places[0..self.count]
@@ -57,7 +59,8 @@ impl<K: WeightKind> Network<K> {
 
 /// Refuses the first link with an end that is no site, or with one site at both ends.
 fn check_links<K: WeightKind>(sites: u8, links: &[Link<K>]) -> Result<(), Refusal>
-    ensures { λ r. ⌜ refusalOf r ≡ firstOf (linkRules sites 0 (now (links .entry))) ⌝ }
+    ensures refuses { λ r. ⌜ refusalOf r ≡ firstOf (linkRules sites 0 (now (links .entry))) ⌝ }
+    ensures sound { λ r. ⌜ made r (λ _. sound sites (now (links .entry)) ≡ true) ⌝ }
 {
     for (number, link) in links.iter().enumerate() {
         let (from, to) = (link.from, link.to);
@@ -69,6 +72,13 @@ fn check_links<K: WeightKind>(sites: u8, links: &[Link<K>]) -> Result<(), Refusa
         }
     }
     Ok(())
+}
+
+/// The record in which every link is open.
+fn all_open() -> Closed
+    ensures { λ r. ⌜ ((e : ℕ) → closedAt r e ≡ false) ⌝ }
+{
+    Closed::none()
 }
 
 /// The links in the first of 512 places.

@@ -1,0 +1,10 @@
+pub mod Members
+pub mod Closure
+pub mod Steinitz
+pub mod Completion
+pub mod Dominance
+pub mod Labelling
+pub mod Counting
+pub mod Size
+pub mod Trees
+pub mod LabelLists
