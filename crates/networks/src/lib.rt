@@ -18,5 +18,4 @@ pub use orders::RankOrder;
 pub use pricing::price;
 pub use refusals::Layer;
 pub use refusals::Refusal;
-pub use refusals::RefusalDisplay;
 pub use refusals::Report;

@@ -1,11 +1,7 @@
 //! Refusals: what was wrong with what was handed in, or why the moment does not allow a call.
 
-ghost use lib.Chars.{codes};
-ghost use mathlib.Core.List.{_++_};
 ghost use mathlib.Core.Path.{_≡_};
-ghost use Rattle.std.specs.declared.option.Option.the-variants.{Some};
-ghost use Rattle.networks.specs.Refusals.{reportOf, nameOf, lineOf};
-use std::fmt;
+ghost use Rattle.networks.specs.Refusals.{reportOf, nameOf};
 
 /// The part of the product that refuses.
 #[derive(Clone, Copy, PartialEq, Eq, Debug)]
@@ -116,18 +112,5 @@ impl Refusal {
             number,
             place,
         }
-    }
-}
-
-/// The line that is printed of a refusal.
-pub impl fmt::Display for Refusal as RefusalDisplay {
-    ghost shown = { λ x. Some (lineOf (reportOf x)) };
-
-    fn fmt<W: fmt::Write>(&self, f: &mut fmt::Formatter<W>) -> fmt::Result {
-        let report = self.to_report();
-        let number = report.number;
-        let place = report.place;
-        let layer = report.layer.name();
-        write!(f, "refused {number} at {place} in {layer}")
     }
 }

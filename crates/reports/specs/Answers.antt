@@ -70,6 +70,9 @@ toldOf (Ok n) = Sound (sitesOf n) (length (linksOf n))
 toldOf (Err e) = Refused e
 
 -- the printed line, as `sites 4 links 5`
+abbrev pub soundLine : ℕ → ℕ → List ℕ
+soundLine sites links = codes "sites " ++ (decimal sites ++ (codes " links " ++ decimal links))
+
 abbrev pub lineOfAnswer : Answer → List ℕ
-lineOfAnswer (Sound sites links) = codes "sites " ++ (decimal sites ++ (codes " links " ++ decimal links))
+lineOfAnswer (Sound sites links) = soundLine sites links
 lineOfAnswer (Refused e) = lineOf (reportOf e)

@@ -5,6 +5,5 @@ pub mod lines;
 
 pub use answers::Answer;
 pub use answers::Kind;
-pub use lines::AnswerDisplay;
 pub use lines::answer;
 pub use lines::kind_of;

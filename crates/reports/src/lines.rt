@@ -2,20 +2,21 @@
 
 ghost use Prim.Native.Nat.{ℕ};
 ghost use mathlib.Core.Path.{_≡_};
-ghost use Rattle.std.specs.declared.option.Option.the-variants.{Some};
-ghost use Rattle.reports.specs.Answers.{kindOf, Answers, AnswersAs, lineOfAnswer, toldOf};
+ghost use Rattle.networks.specs.Refusals.{lineOf};
+ghost use Rattle.texts.specs.Lines.{lineBytes};
+ghost use Rattle.reports.specs.Answers.{kindOf, Answers, AnswersAs, lineOfAnswer, soundLine, toldOf};
 ghost use Rattle.reports.specs.declared.answers.Kind.the-variants.{Metres as metres, CrossingsMetres as crossings};
 use crate::answers::Answer;
 use crate::answers::Kind;
 use networks::Link;
 use networks::Network;
 use networks::Refusal;
-use networks::RefusalDisplay;
+use networks::Report;
 use sheets::CrossingsMetresSheet;
 use sheets::MetresSheet;
 use sheets::SheetKind;
 use sheets::load;
-use std::fmt;
+use texts::Line;
 use weights::Crossings;
 use weights::CrossingsKind;
 use weights::Metres;
@@ -84,14 +85,38 @@ fn told<K: SheetKind>(loaded: Result<Network<K>, Refusal>) -> Answer
     }
 }
 
-/// The line that is printed of an answer.
-pub impl fmt::Display for Answer as AnswerDisplay {
-    ghost shown = { λ x. Some (lineOfAnswer x) };
-
-    fn fmt<W: fmt::Write>(&self, f: &mut fmt::Formatter<W>) -> fmt::Result {
+impl Answer {
+    /// The line that is printed of the answer, without its end.
+    pub fn line(&self) -> Line
+        ensures { λ r. ⌜ lineBytes r ≡ lineOfAnswer (now (self .entry)) ⌝ }
+    {
         match *self {
-            Answer::Sound { sites, links } => write!(f, "sites {sites} links {links}"),
-            Answer::Refused(refusal) => write!(f, "{refusal}"),
+            Answer::Sound { sites, links } => sound_line(sites, links),
+            Answer::Refused(refusal) => refused_line(refusal.to_report()),
         }
     }
+}
+
+fn sound_line(sites: u8, links: usize) -> Line
+    ensures { λ r. ⌜ lineBytes r ≡ soundLine sites links ⌝ }
+{
+    let mut line = Line::new();
+    line.put(b"sites ");
+    line.put_number(sites as u64);
+    line.put(b" links ");
+    line.put_number(links as u64);
+    line
+}
+
+fn refused_line(report: Report) -> Line
+    ensures { λ r. ⌜ lineBytes r ≡ lineOf report ⌝ }
+{
+    let mut line = Line::new();
+    line.put(b"refused ");
+    line.put_number(report.number as u64);
+    line.put(b" at ");
+    line.put_number(report.place as u64);
+    line.put(b" in ");
+    line.put(report.layer.name().as_bytes());
+    line
 }
