@@ -24,7 +24,7 @@ use Rattle.cheapest.specs.Completions.{candidates, sorted, completion, first}
 use Rattle.cheapest.specs.Classes.{InSome, Reaches, In-some-stands}
 use Rattle.cheapest.proofs.Amounts.{add-le-right, total-sorted}
 use Rattle.cheapest.proofs.Sorting.{sorted-in, in-sorted, rising-unique}
-use Rattle.cheapest.proofs.Rows.{candidate-allowed, allowed-candidate, completion-least, first-size, tree-row}
+use Rattle.cheapest.proofs.TreeRows.{candidate-allowed, allowed-candidate, completion-least, first-size, tree-row}
 use Rattle.cheapest.proofs.Totals.{total-push, tree-by-total, cheapest-low}
 
 module _ (g : Graph) (fits : Fits g) (s : Scale) (laws : Lawful s) (w : ℕ → s .Amount) where

@@ -13,9 +13,10 @@ use Rattle.forests.specs.Lists.{In}
 use Rattle.forests.specs.Graphs.{Graph, Fits, SpanningTree}
 use Rattle.forests.proofs.Members.{in-or-not}
 use Rattle.weights.specs.Scales.{Scale, Lawful, sumOf}
+use Rattle.cheapest.specs.Trees.{Cheapest}
 use Rattle.cheapest.specs.Completions.{first}
 use Rattle.cheapest.specs.Classes.{closing, Avoidable, Reaches, Avoidable-stands, In-every-stands}
-use Rattle.cheapest.proofs.Rows.{first-size}
+use Rattle.cheapest.proofs.TreeRows.{first-size}
 use Rattle.cheapest.proofs.Totals.{first-cheapest, cheapest-by-total, cheapest-low}
 
 module _ (g : Graph) (fits : Fits g) (s : Scale) (laws : Lawful s) (w : ℕ → s .Amount) (closed : ℕ → Bool) where
@@ -53,12 +54,19 @@ module _ (g : Graph) (fits : Fits g) (s : Scale) (laws : Lawful s) (w : ℕ → 
         ),
       )
 
+  -- the first row without them is then a cheapest tree's
+  pub closed-first : (length (first (closing g closed) s w) + 1 ≡ g .sites) × Reaches g s w (first (closing g closed) s w) → Cheapest g s w (first (closing g closed) s w)
+  closed-first h =
+      let r = first (closing g closed) s w in
+      let c = first-cheapest (closing g closed) closing-fits s laws w (h .0) in
+      cheapest-by-total g fits s laws w r (record { tree = open-tree r (c .row .tree); rises = c .row .rises }) (h .1 .1)
+
   pub reaches-avoidable : (length (first (closing g closed) s w) + 1 ≡ g .sites) × Reaches g s w (first (closing g closed) s w) → Avoidable g s w closed
   reaches-avoidable h =
       let r = first (closing g closed) s w in
       let c = first-cheapest (closing g closed) closing-fits s laws w (h .0) in (
         r,
-        cheapest-by-total g fits s laws w r (record { tree = open-tree r (c .row .tree); rises = c .row .rises }) (h .1 .1),
+        closed-first h,
         λ e m. not-true (closed e) (and-parts (g .usable e) (not (closed e)) (c .row .tree .allowed e m .1) .1),
       )
 

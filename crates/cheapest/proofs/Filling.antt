@@ -48,19 +48,20 @@ module _ (start end : List ℕ) (n : ℕ) (fits : (c : ℕ) → c < n → (value
       )
 
 -- The state of that run, at candidate c with p in the row.
-pub record Filling (start end : List ℕ) (n : ℕ) (row : List ℕ) (stack : List (List ℕ)) (p c : ℕ) : Type 0 where
+pub record Filling (start end : List ℕ) (n : ℕ) (front row : List ℕ) (stack : List (List ℕ)) (p c : ℕ) : Type 0 where
   pub wide : length row ≡ 64
   pub few : p < 64
   pub placed : Placed start end [] n [] row stack p
-  pub whole : picks (ring start end) [] (below n) ≡ grown start end n (take p row) c
+  pub short : length (grown start end n front 0) < 64
+  pub whole : grown start end n front 0 ≡ grown start end n (take p row) c
 
-module _ {start end : List ℕ} {n : ℕ} {row : List ℕ} {stack : List (List ℕ)} {p c : ℕ}
-    (fits : (c : ℕ) → c < n → (valueAt start c < 64) × (valueAt end c < 64)) (here : Filling start end n row stack p c) where
-  pub filling-skip : c < n → ring start end (push [] (take p row)) c ≡ true → Filling start end n row stack p (c + 1)
+module _ {start end : List ℕ} {n : ℕ} {front row : List ℕ} {stack : List (List ℕ)} {p c : ℕ} (here : Filling start end n front row stack p c) where
+  pub filling-skip : c < n → ring start end (push [] (take p row)) c ≡ true → Filling start end n front row stack p (c + 1)
   filling-skip l t = record {
     wide = here .wide;
     few = here .few;
     placed = here .placed;
+    short = here .short;
     whole = here .whole ∙ grown-skip start end n (take p row) c l t;
   }
 
@@ -71,14 +72,14 @@ module _ {start end : List ℕ} {n : ℕ} {row : List ℕ} {stack : List (List �
       let rest = picks (ring start end) (c ∷ S) (drop (c + 1) (below n)) in
       omega (
         arith,
-        picks-short start end n fits,
+        here .short,
         ap length (here .whole ∙ grown-pick start end n (take p row) c l f),
         length-append (take p row) (c ∷ rest),
         length-take-le p row (omega (arith, here .few, here .wide)),
       )
 
   pub filling-take : (row′ : List ℕ) (stack′ : List (List ℕ)) → c < n → ring start end (push [] (take p row)) c ≡ false
-      → row′ ≡ set row p c → length row′ ≡ 64 → Fronts start end row′ stack′ (p + 1) → Filling start end n row′ stack′ (p + 1) (c + 1)
+      → row′ ≡ set row p c → length row′ ≡ 64 → Fronts start end row′ stack′ (p + 1) → Filling start end n front row′ stack′ (p + 1) (c + 1)
   filling-take row′ stack′ l f e wide fronts =
       let inside : p < length row = omega (arith, here .few, here .wide) in
       record {
@@ -86,10 +87,11 @@ module _ {start end : List ℕ} {n : ℕ} {row : List ℕ} {stack : List (List �
         few = filling-room l f;
         placed = subst (λ r. Placed start end [] n [] r stack′ (p + 1)) (sym e)
             (placed-more start end [] n [] row stack stack′ p c inside l refl (here .placed) (subst (λ r. Fronts start end r stack′ (p + 1)) e fronts));
+        short = here .short;
         whole = here .whole ∙ grown-take start end n row p c inside l f ∙ ap (λ r. grown start end n (take (p + 1) r) (c + 1)) (sym e);
       }
 
-  pub filled : n ≤ c → Filled start end n row stack p
+  pub filled : n ≤ c → Filled start end n front row stack p
   filled l = record {
     few = here .few;
     whole = sym (here .whole ∙ grown-end start end n (take p row) c l);
@@ -97,9 +99,9 @@ module _ {start end : List ℕ} {n : ℕ} {row : List ℕ} {stack : List (List �
     inside = here .placed .inside;
   }
 
-pub filling-moved : {start end : List ℕ} {n : ℕ} {row row′ : List ℕ} {stack stack′ : List (List ℕ)} {p p′ c : ℕ}
-    → row′ ≡ row → stack′ ≡ stack → p′ ≡ p → Filling start end n row stack p c → Filling start end n row′ stack′ p′ c
-filling-moved {start} {end} {n} {row} {row′} {stack} {stack′} {p} {p′} {c} a b d h =
-    subst (λ r. Filling start end n r stack′ p′ c) (sym a)
-    (subst (λ s. Filling start end n row s p′ c) (sym b)
-    (subst (λ q. Filling start end n row stack q c) (sym d) h))
+pub filling-moved : {start end : List ℕ} {n : ℕ} {front row row′ : List ℕ} {stack stack′ : List (List ℕ)} {p p′ c : ℕ}
+    → row′ ≡ row → stack′ ≡ stack → p′ ≡ p → Filling start end n front row stack p c → Filling start end n front row′ stack′ p′ c
+filling-moved {start} {end} {n} {front} {row} {row′} {stack} {stack′} {p} {p′} {c} a b d h =
+    subst (λ r. Filling start end n front r stack′ p′ c) (sym a)
+    (subst (λ s. Filling start end n front row s p′ c) (sym b)
+    (subst (λ q. Filling start end n front row stack q c) (sym d) h))

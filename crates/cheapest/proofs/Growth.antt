@@ -109,7 +109,11 @@ module _ {start end class : List ℕ} {n : ℕ} {wanted row₀ : List ℕ} {i fi
     (here : Growing start end class n wanted row₀ i first row stack p c) where
   pub growing-skip : c < n → ring start end (push [] (take p row)) c ≡ true → Growing start end class n wanted row₀ i first row stack p (c + 1)
   growing-skip l t = record {
-    wide = here .wide; low = here .low; far = here .far; same = here .same; placed = here .placed;
+    wide = here .wide;
+    low = here .low;
+    far = here .far;
+    same = here .same;
+    placed = here .placed;
     whole = here .whole ∙ grown-skip start end n (take p row) c l t;
   }
 
@@ -119,7 +123,9 @@ module _ {start end class : List ℕ} {n : ℕ} {wanted row₀ : List ℕ} {i fi
   growing-take row′ stack′ lp lw l f level e wide fronts =
       let inside : p < length row = omega (arith, here .wide) in
       record {
-        wide = wide; low = omega (arith, here .low); far = omega arith;
+        wide = wide;
+        low = omega (arith, here .low);
+        far = omega arith;
         same = ap (take i) e ∙ take-set-le i row p c (here .low) ∙ here .same;
         placed = subst (λ r. Placed start end class n wanted r stack′ (p + 1)) (sym e)
             (placed-more start end class n wanted row stack stack′ p c inside l level (here .placed) (subst (λ r. Fronts start end r stack′ (p + 1)) e fronts));

@@ -7,7 +7,7 @@ pub mod Departures
 pub mod Successors
 pub mod Choices
 pub mod FullLists
-pub mod Rows
+pub mod TreeRows
 pub mod Theorems
 pub mod SameRows
 pub mod Listings
@@ -25,3 +25,8 @@ pub mod Filling
 pub mod Selection
 pub mod Translation
 pub mod RowTests
+pub mod Standings
+pub mod Joining
+pub mod Stances
+pub mod Avoiding
+pub mod Belonging

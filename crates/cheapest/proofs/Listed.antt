@@ -19,7 +19,7 @@ use Rattle.cheapest.specs.Plans.{graphOf, markOf, rankedOf}
 use Rattle.cheapest.specs.Scans.{valueAt}
 use Rattle.cheapest.specs.declared.plan.Plan.{Plan}
 use Rattle.cheapest.specs.declared.candidates.Candidates.{Candidates}
-use Rattle.cheapest.proofs.Rows.{candidates-rising, graph-amounts}
+use Rattle.cheapest.proofs.TreeRows.{candidates-rising, graph-amounts}
 use Rattle.cheapest.proofs.Numbers.{numbers-lawful}
 
 pub rising-places : (key : ℕ → ℕ) (xs : List ℕ) (i j : ℕ) → Rising key xs → i < j → j < length xs → key (getD xs i 0) < key (getD xs j 0)
@@ -52,8 +52,12 @@ module _ (list : Candidates) where
   pub keys-rise : (c d : ℕ) → c < d → d < list .count → keyOf (list .plan) (getD (list .number) c 0) < keyOf (list .plan) (getD (list .number) d 0)
   keys-rise c d l k =
       let key = keyOf (list .plan) in
-      omega (arith, ap key (list .numbers c (omega arith)), ap key (list .numbers d k),
-      rising-places key (rankedOf (list .plan)) c d (candidates-rising (graphOf (list .plan)) numbers numbers-lawful (markOf (list .plan))) l (omega (arith, list .all)))
+      omega (
+        arith,
+        ap key (list .numbers c (omega arith)),
+        ap key (list .numbers d k),
+        rising-places key (rankedOf (list .plan)) c d (candidates-rising (graphOf (list .plan)) numbers numbers-lawful (markOf (list .plan))) l (omega (arith, list .all)),
+      )
 
   pub classes-rise : (c d : ℕ) → c ≤ d → d < list .count → getD (list .class) c 0 ≤ getD (list .class) d 0
   classes-rise c d l k =
@@ -62,9 +66,13 @@ module _ (list : Candidates) where
       let y = getD (list .number) d 0 in
       elim (cases-eq c d) [
         | inl e ↦ omega (arith, ap (λ n. getD (list .class) n 0) e)
-        | inr ne ↦ omega (arith, list .classes c (omega arith), list .classes d k,
-            leb-true (markOf p x) (markOf p y) (graph-amounts (graphOf p) numbers numbers-lawful (markOf p) x y (candidate-in c (omega arith)) (candidate-in d k)
-            (let h = keys-rise c d (omega arith) k in omega (arith, h))))
+        | inr ne ↦ omega (
+          arith,
+          list .classes c (omega arith),
+          list .classes d k,
+          leb-true (markOf p x) (markOf p y) (graph-amounts (graphOf p) numbers numbers-lawful (markOf p) x y (candidate-in c (omega arith)) (candidate-in d k)
+              (let h = keys-rise c d (omega arith) k in omega (arith, h))),
+        )
       ]
 
   pub ends-fit : (c : ℕ) → c < list .count → (valueAt (list .start) c < 64) × (valueAt (list .end) c < 64)

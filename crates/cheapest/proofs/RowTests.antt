@@ -22,7 +22,8 @@ use Rattle.cheapest.specs.Plans.{graphOf, markOf, rankedOf, firstOf}
 use Rattle.cheapest.specs.Scans.{valueAt, ring, matches}
 use Rattle.cheapest.specs.declared.candidates.Candidates.{Candidates}
 use Rattle.cheapest.proofs.Successors.{Best}
-use Rattle.cheapest.proofs.Rows.{graphSetting, candidates-rising, cheapest-best, best-cheapest}
+use Rattle.cheapest.proofs.Bases.{first-base}
+use Rattle.cheapest.proofs.TreeRows.{graphSetting, graph-proper, candidates-rising, cheapest-best, best-cheapest}
 use Rattle.cheapest.proofs.Numbers.{numbers-lawful}
 use Rattle.cheapest.proofs.Listed.{keyOf, plan-fits, listed}
 use Rattle.cheapest.proofs.Translation.{matches-same, small-below}
@@ -110,3 +111,9 @@ module _ (list : Candidates) where
   cheapest-passes row c =
       let b = cheapest-best (graphOf (list .plan)) numbers numbers-lawful (markOf (list .plan)) (plan-fits (list .plan)) row c in
       (best-passes row b, b .amounts)
+
+  pub first-best : Best (graphSetting (graphOf (list .plan)) (keyOf (list .plan)) []) numbers (markOf (list .plan)) (firstOf (list .plan))
+  first-best = record {
+    base = first-base (graphSetting (graphOf (list .plan)) (keyOf (list .plan)) []) (graph-proper (graphOf (list .plan)) numbers numbers-lawful (markOf (list .plan)) [] tt);
+    amounts = refl;
+  }

@@ -24,7 +24,7 @@ use Rattle.cheapest.proofs.Amounts.{le-refl}
 use Rattle.cheapest.proofs.Ranks.{rank-alike}
 use Rattle.cheapest.proofs.Sorting.{rising-unique}
 use Rattle.cheapest.proofs.FullLists.{listing-alike}
-use Rattle.cheapest.proofs.Rows.{candidate-allowed, allowed-candidate, candidates-rising}
+use Rattle.cheapest.proofs.TreeRows.{candidate-allowed, allowed-candidate, candidates-rising}
 use Rattle.cheapest.proofs.Theorems.{position}
 
 -- keys that agree on the links below m order such links alike

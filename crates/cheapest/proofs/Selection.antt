@@ -14,7 +14,7 @@ use Rattle.cheapest.specs.Completions.{passing, Ranking}
 use Rattle.cheapest.specs.Plans.{graphOf, markOf, rankedOf}
 use Rattle.cheapest.specs.declared.plan.Plan.{Plan}
 use Rattle.cheapest.proofs.Ranks.{rank-injective}
-use Rattle.cheapest.proofs.Rows.{candidate-allowed}
+use Rattle.cheapest.proofs.TreeRows.{candidate-allowed}
 use Rattle.cheapest.proofs.Rankings.{rank-below, ranking-candidates}
 use Rattle.cheapest.proofs.Numbers.{numbers-lawful}
 use Rattle.cheapest.proofs.Listed.{keyOf}

@@ -17,7 +17,7 @@ use Rattle.cheapest.proofs.Ranks.{rank-injective, rank-follows}
 use Rattle.cheapest.proofs.Bases.{first-base, first-lowest}
 use Rattle.cheapest.proofs.Successors.{Best, none-after, next-row}
 use Rattle.cheapest.proofs.FullLists.{full-list, listing-unique, listing-alike, next-alike}
-use Rattle.cheapest.proofs.Rows.{graphSetting, graph-proper, graph-amounts, completion-least, first-size, row-base, one-row, cheapest-best, best-cheapest}
+use Rattle.cheapest.proofs.TreeRows.{graphSetting, graph-proper, graph-amounts, completion-least, first-size, row-base, one-row, cheapest-best, best-cheapest}
 
 module _ (s : Scale) (laws : Lawful s) where
   pub ranks-tell : Ranks-tell s

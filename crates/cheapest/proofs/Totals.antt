@@ -12,7 +12,7 @@ use Rattle.cheapest.specs.Ranks.{rank}
 use Rattle.cheapest.specs.Trees.{Row, Cheapest}
 use Rattle.cheapest.specs.Completions.{sorted, first}
 use Rattle.cheapest.proofs.Amounts.{total-sorted}
-use Rattle.cheapest.proofs.Rows.{first-size, tree-row}
+use Rattle.cheapest.proofs.TreeRows.{first-size, tree-row}
 use Rattle.cheapest.proofs.Theorems.{first-row}
 
 module _ (s : Scale) (laws : Lawful s) (w : ℕ → s .Amount) where

@@ -20,7 +20,7 @@ use Rattle.cheapest.specs.Completions.{passing, above, departs}
 use Rattle.cheapest.specs.Plans.{graphOf, markOf, rankedOf, firstOf}
 use Rattle.cheapest.specs.Scans.{valueAt, ring, grown, departed, matches}
 use Rattle.cheapest.specs.declared.candidates.Candidates.{Candidates}
-use Rattle.cheapest.proofs.Rows.{candidates-rising}
+use Rattle.cheapest.proofs.TreeRows.{candidates-rising}
 use Rattle.cheapest.proofs.Sorting.{below-in}
 use Rattle.cheapest.proofs.Growth.{in-below-from}
 use Rattle.cheapest.proofs.Numbers.{numbers-lawful}

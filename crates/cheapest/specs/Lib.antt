@@ -6,3 +6,4 @@ pub mod Theorems
 pub mod Classes
 pub mod Plans
 pub mod Scans
+pub mod Positions

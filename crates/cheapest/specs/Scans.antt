@@ -71,9 +71,10 @@ pub record Matched (start end number : List ℕ) (n : ℕ) (numbers row : List �
   pub empty : Fronts start end row stack 0
   pub placed : r ≡ true → Placed start end number n numbers row stack (length numbers)
 
--- What a run over all candidates makes of an empty row: it begins with the greedy completion, of length r.
-pub record Filled (start end : List ℕ) (n : ℕ) (row : List ℕ) (stack : List (List ℕ)) (r : ℕ) : Type 0 where
+-- What a run over all candidates makes of a row that begins with `front`: the greedy completion of that
+-- front, of length r.
+pub record Filled (start end : List ℕ) (n : ℕ) (front row : List ℕ) (stack : List (List ℕ)) (r : ℕ) : Type 0 where
   pub few : r < 64
-  pub whole : take r row ≡ picks (ring start end) [] (below n)
+  pub whole : take r row ≡ grown start end n front 0
   pub fronts : Fronts start end row stack r
   pub inside : (j : ℕ) → j < r → getD row j 0 < n

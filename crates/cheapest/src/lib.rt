@@ -9,10 +9,15 @@
 //!
 //! The definitions and the statements stand in `specs/`, the proofs in `proofs/`.
 
-pub mod plan;
 mod candidates;
+mod closing;
 mod completing;
+mod enumeration;
 mod listing;
+mod membership;
+mod moving;
+pub mod plan;
+mod reading;
 mod searching;
 mod walk;
 

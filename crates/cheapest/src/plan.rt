@@ -25,6 +25,7 @@ pub struct Plan {
     ghost few: { sites ≤ 64 },
     ghost room: { count ≤ 512 },
     ghost wide: { length order ≡ 512 },
+    ghost wideusable: { length usable ≡ 512 },
     ghost starts: { (e : ℕ) → e < count → getD from e 0 < sites },
     ghost ends: { (e : ℕ) → e < count → getD to e 0 < sites },
     ghost links: { (k : ℕ) → k < count → getD order k 0 < count },

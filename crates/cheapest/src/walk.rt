@@ -20,6 +20,20 @@ pub(crate) struct Walk {
     ghost high: { length labels ≡ 64 },
 }
 
+/// An empty row: every site has a label of its own.
+pub(crate) fn empty() -> Walk
+    ensures { λ r. ⌜ ((u : ℕ) → u < 64 → getD (getD (r .labels) 0 []) u 0 ≡ u) ⌝ }
+{
+    let mut sites = [0; 64];
+    for u in 0..64u8 {
+        sites[u as usize] = u;
+    }
+    Walk {
+        at: [0; 64],
+        labels: [sites; 64],
+    }
+}
+
 /// Whether candidate `c` closes no ring with the first `p` candidates of the row.
 pub(crate) fn apart(list: &Candidates, walk: &Walk, p: usize, c: usize) -> bool
     requires within { ⌜ (p < 64) × (c < now list .count) ⌝ }

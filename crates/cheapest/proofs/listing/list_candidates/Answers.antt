@@ -8,8 +8,7 @@ ghost-result c =
     let few = plan .few in
     let e = c .select-count .ensures in
     let number = c .select-count .result .0 in
-    let n = c .select-count .result .1 in
-    (
+    let n = c .select-count .result .1 in (
       e .few,
       (
         selected-all plan number n (omega (arith, e .len, e .few)) (e .selects),
