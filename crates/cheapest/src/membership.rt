@@ -15,7 +15,6 @@ use crate::candidates::Candidates;
 use crate::listing::list_candidates;
 use crate::plan::Plan;
 use crate::searching::first_row;
-
 use crate::walk::choose;
 use crate::walk::empty;
 

@@ -14,35 +14,29 @@ ghost use Rattle.forests.specs.Theorems.{Exchange, Forest-size, Forest-joins, 
 /// Exchange: where a new link joins the ends of another, the other could have been added in its place.
 fn exchange_stands()
     ensures { λ _. ⌜ Exchange ⌝ }
-{
-}
+{}
 
 /// A forest that joins all of `n` sites has `n - 1` links.
 fn forest_size_stands()
     ensures { λ _. ⌜ Forest-size ⌝ }
-{
-}
+{}
 
 /// A forest of `n - 1` links joins all of `n` sites.
 fn forest_joins_stands()
     ensures { λ _. ⌜ Forest-joins ⌝ }
-{
-}
+{}
 
 /// Spanning trees are the forests of `n - 1` usable links.
 fn trees_are_forests_stands()
     ensures { λ _. ⌜ Trees-are-forests ⌝ }
-{
-}
+{}
 
 /// Labels agree exactly where sites are joined.
 fn labelled_stands()
     ensures { λ _. ⌜ Labelled ⌝ }
-{
-}
+{}
 
 /// The greedy completion of a forest is no shorter than any other, and lowest at every position.
 fn completion_lowest_stands()
     ensures { λ _. ⌜ Completion-lowest ⌝ }
-{
-}
+{}

@@ -28,12 +28,12 @@ module _ {X : Type 0} (d : X) where
     filled-more xs i v l is before e =
         ⊎-elim
         (λ same. ap (λ k. getD (set xs i v) k d) same ∙ getD-set-same xs i v d l ∙ is ∙ ap f (sym same)
-          ∙ sym (cond-true (ltb e (i + 1)) (f e) d (lt-ltb e (i + 1) (omega arith))))
+        ∙ sym (cond-true (ltb e (i + 1)) (f e) d (lt-ltb e (i + 1) (omega arith))))
         (λ other. getD-set-other xs i e v d other ∙ before e
-          ∙ ⊎-elim
-            (λ less. cond-true (ltb e i) (f e) d (lt-ltb e i less) ∙ sym (cond-true (ltb e (i + 1)) (f e) d (lt-ltb e (i + 1) (omega arith))))
-            (λ more. cond-false (ltb e i) (f e) d (le-ltb e i more) ∙ sym (cond-false (ltb e (i + 1)) (f e) d (le-ltb e (i + 1) (omega arith))))
-            (cases-lt e i))
+        ∙ ⊎-elim
+        (λ less. cond-true (ltb e i) (f e) d (lt-ltb e i less) ∙ sym (cond-true (ltb e (i + 1)) (f e) d (lt-ltb e (i + 1) (omega arith))))
+        (λ more. cond-false (ltb e i) (f e) d (le-ltb e i more) ∙ sym (cond-false (ltb e (i + 1)) (f e) d (le-ltb e (i + 1) (omega arith))))
+        (cases-lt e i))
         (cases-eq e i)
 
     pub filled-here : (xs : List X) (i e : ℕ) → FilledTo xs i → e < i → getD xs e d ≡ f e

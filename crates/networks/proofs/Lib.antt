@@ -4,6 +4,7 @@ pub mod Faults
 pub mod FirstFaults
 pub mod Filled
 pub mod Injections
+pub mod Inside
 pub mod Marks
 pub mod Order
 pub mod Prices

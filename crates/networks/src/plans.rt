@@ -70,11 +70,32 @@ fn ends<K: WeightKind>(links: &[Link<K>]) -> [u8; 512]
 /// Which of the first links are open.
 fn open_links(closed: &Closed, count: usize) -> [bool; 512]
     requires { ⌜ count ≤ 512 ⌝ }
-    ensures { λ r. ⌜ ((e : ℕ) → getD r e false ≡ openBelow (now (closed .entry)) count e) ⌝ }
+    ensures opens { λ r. ⌜ ((e : ℕ) → getD r e false ≡ openBelow (now (closed .entry)) count e) ⌝ }
+    ensures len { λ r. ⌜ length r ≡ 512 ⌝ }
 {
     let mut open = [false; 512];
     for link in 0..count {
         open[link] = !closed.is_closed(link as u16);
     }
     open
+}
+
+impl<K: WeightKind> Network<K> {
+    /// The network's graph with marks that compare as its weights do. The cost grows with the square of the number of
+    /// links.
+    pub(crate) fn plan(&self) -> Plan
+        ensures graph { λ r. ⌜ graphOf r ≡ networkGraph (now (self .entry)) ⌝ }
+        ensures alike { λ r. ⌜ Alike numbers scale (markOf r) (weightOf scale amount (linksOf (now (self .entry)))) (length (linksOf (now (self .entry)))) ⌝ }
+    {
+        let links = self.links();
+        Plan {
+            sites: self.sites,
+            count: links.len(),
+            from: starts(links),
+            to: ends(links),
+            mark: marks(links),
+            usable: open_links(&self.closed, links.len()),
+            order: rank_links(links),
+        }
+    }
 }

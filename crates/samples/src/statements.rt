@@ -32,7 +32,13 @@ pub fn crossings_decide() -> (bool, bool)
 pub fn price_of_a_row() -> Option<u64>
     ensures { λ r. ⌜ r ≡ Some 6 ⌝ }
 {
-    let links = [link(0, 1, 2), link(1, 2, 2), link(0, 2, 2), link(2, 3, 1), link(1, 3, 2)];
+    let links = [
+        link(0, 1, 2),
+        link(1, 2, 2),
+        link(0, 2, 2),
+        link(2, 3, 1),
+        link(1, 3, 2),
+    ];
     match price(&links, &[0, 1, 4]) {
         Ok(total) => Some(total.metres()),
         Err(_) => None,

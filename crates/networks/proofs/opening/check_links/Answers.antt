@@ -7,7 +7,7 @@ pub returns-then-from-sites : need.returns-then-from-sites
 returns-then-from-sites g c =
     record {
       refuses = sym (c .loop-number .inv ∙ outside (c .args .sites) (c .loop-number .number) (c .args .links .now) (c .index-links-number .result)
-        (c .loop-number-test .taken) (c .index-links-number .is) (⊎-elim inl (λ b. inr (b .1)) (c .then-from-sites .either)));
+          (c .loop-number-test .taken) (c .index-links-number .is) (⊎-elim inl (λ b. inr (b .1)) (c .then-from-sites .either)));
       sound = tt;
     }
 
@@ -15,7 +15,7 @@ pub returns-then-from-to : need.returns-then-from-to
 returns-then-from-to g c =
     record {
       refuses = sym (c .loop-number .inv ∙ self-link (c .args .sites) (c .loop-number .number) (c .args .links .now) (c .index-links-number .result)
-        (c .loop-number-test .taken) (c .index-links-number .is) (c .if-from-sites .left) (c .if-to-sites .left) (c .if-from-to .taken));
+          (c .loop-number-test .taken) (c .index-links-number .is) (c .if-from-sites .left) (c .if-to-sites .left) (c .if-from-to .taken));
       sound = tt;
     }
 

@@ -19,11 +19,10 @@ loop-link-again g c =
     let links = c .args .links .now in
     let f : ℕ → ℕ = lighterThan (k .scale) (weightOf (k .scale) (k .amount) links) (length links) in
     let link = c .loop-link .link in
-    let l = c .loop-link .inv .0 in
-    (
+    let l = c .loop-link .inv .0 in (
       length-set (c .loop-link .marks) link (c .mark .result) ∙ l,
       filled-more 0 f (c .loop-link .marks) link (c .mark .result) (let p = c .pre in let t = c .loop-link-test .taken in omega arith)
-        (c .mark .ensures .counts) (c .loop-link .inv .1)
+          (c .mark .ensures .counts) (c .loop-link .inv .1),
     )
 
 pub returns : need.returns

@@ -19,16 +19,18 @@ loop-link-again c =
     let link = c .loop-link .link in
     let l = c .loop-link .inv .0 in
     let here = lt-ltb link (c .args .count) (c .loop-link-test .taken) in
-    let one : not (c .is-closed .result) ≡ openBelow closed (c .args .count) link = (let e = c .is-closed .ensures in rw here (ap not e)) in
-    (
+    let one : not (c .is-closed .result) ≡ openBelow closed (c .args .count) link = (let e = c .is-closed .ensures in rw here (ap not e)) in (
       length-set (c .loop-link .open) link (not (c .is-closed .result)) ∙ l,
       filled-more false (openBelow closed (c .args .count)) (c .loop-link .open) link (not (c .is-closed .result)) (let p = c .pre in let t = c .loop-link-test .taken in omega arith)
-        one (c .loop-link .inv .1)
+          one (c .loop-link .inv .1),
     )
 
 pub returns : need.returns
 returns c =
     let closed = c .args .closed .now in
     let n = c .args .count in
-    filled-all false (openBelow closed n) (c .loop-link .open) (c .loop-link .link) (c .loop-link .inv .1)
-    (λ e m. and-left (ltb e n) (not (closedAt closed e)) (le-ltb e n (let t = c .loop-link-test .left in omega arith)))
+    record {
+      opens = filled-all false (openBelow closed n) (c .loop-link .open) (c .loop-link .link) (c .loop-link .inv .1)
+          (λ e m. and-left (ltb e n) (not (closedAt closed e)) (le-ltb e n (let t = c .loop-link-test .left in omega arith)));
+      len = c .loop-link .inv .0;
+    }

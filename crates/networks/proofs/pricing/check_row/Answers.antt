@@ -10,16 +10,15 @@ pub returns-then-index-ge63 : need.returns-then-index-ge63
 returns-then-index-ge63 c =
     record {
       refuses = sym (c .loop-index .inv .0 ∙ price-stops (c .args .records) (c .loop-index .index) (c .args .row .now) (c .loop-index-test .taken)
-        (⊎-elim inl (λ b. inr (b .1)) (c .then-index-ge63 .either)));
+          (⊎-elim inl (λ b. inr (b .1)) (c .then-index-ge63 .either)));
       good = tt;
     }
 
 pub loop-index-again : need.loop-index-again
-loop-index-again c =
-    (
-      c .loop-index .inv .0 ∙ price-goes (c .args .records) (c .loop-index .index) (c .args .row .now) (c .loop-index-test .taken) (c .if-index-ge63 .left) (c .if-link-records .left),
-      below-more (Priced (c .args .records) (c .args .row .now)) (c .loop-index .index) (c .loop-index .inv .1) (c .if-index-ge63 .left, c .if-link-records .left)
-    )
+loop-index-again c = (
+  c .loop-index .inv .0 ∙ price-goes (c .args .records) (c .loop-index .index) (c .args .row .now) (c .loop-index-test .taken) (c .if-index-ge63 .left) (c .if-link-records .left),
+  below-more (Priced (c .args .records) (c .args .row .now)) (c .loop-index .index) (c .loop-index .inv .1) (c .if-index-ge63 .left, c .if-link-records .left),
+)
 
 pub returns : need.returns
 returns c =

@@ -20,12 +20,11 @@ loop-entry-again g c =
     let w : ℕ → k .scale .Amount = weightOf (k .scale) (k .amount) links in
     let good = c .pre index (c .loop-entry-test .taken) in
     let room : k .held (c .loop-entry .total) < 63 = (let h = c .loop-entry .inv .0 in let b = good .0 in omega arith) in
-    let weight = weight-at (k .scale) (k .amount) links link (c .index-links-entry .result) (good .1) in
-    (
+    let weight = weight-at (k .scale) (k .amount) links link (c .index-links-entry .result) (good .1) in (
       c .add .ensures .counts room ∙ ap (λ n. n + 1) (c .loop-entry .inv .0),
       c .add .ensures .level (c .loop-entry .inv .1),
       sum-more (k .scale) (g .K·WeightKind·met .lawful) w row index (k .sum (c .loop-entry .total)) (k .sum (c .add .last .total)) (w link)
-        (c .loop-entry-test .taken) (c .loop-entry .inv .2) (c .add .ensures .adds room ∙ ap (k .scale .add (k .sum (c .loop-entry .total))) (sym weight)) refl
+          (c .loop-entry-test .taken) (c .loop-entry .inv .2) (c .add .ensures .adds room ∙ ap (k .scale .add (k .sum (c .loop-entry .total))) (sym weight)) refl,
     )
 
 pub returns : need.returns

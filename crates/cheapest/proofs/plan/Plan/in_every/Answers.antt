@@ -26,8 +26,7 @@ returns c =
     let mine = c .first-marks-size .ensures in
     let others = c .first-marks-other-size .ensures in
     let level = c .if-other-size-size .left in
-    let agree = c .same-marks .result in
-    (
+    let agree = c .same-marks .result in (
       (λ e. every-marks p (c .args .link) q (c .without .ensures .graph) (c .without .ensures .marks)
           (λ same. both-ways agree (not-true agree e) (c .same-marks .ensures .1
           (λ j l. mine .marks j l ∙ same j (omega (arith, mine .size)) ∙ sym (others .marks j (omega (arith, level))))))),
