@@ -1,36 +1,34 @@
 -- Links that some cheapest tree has. The greedy completion of a link that is no loop has the least total of
 -- all trees with that link, so the link is in a cheapest tree if that total is the first row's.
 use lib.Dec.{leb}
-use lib.ListN.{length, getD, set, take}
+use lib.ListN.{length, getD, take}
 use mathlib.Core.Bool.{true, false}
 use mathlib.Core.List.{List, [], _∷_, _++_, map}
 use mathlib.Core.Logic.{inl, inr}
 use mathlib.Core.Path.{_≡_, refl, sym, ap, subst, _∙_}
-use Prim.Native.Nat.{ℕ, _+_, _<_, _≤_}
+use Prim.Native.Nat.{ℕ, _+_, _<_}
 use native.Mathlib.Omega.{arith}
-use Rattle.std.proofs.shelf.Lists.{map-more, length-map, length-take-le, take-more-set}
+use Rattle.std.proofs.shelf.Lists.{map-more, length-map, length-take-le}
 use Rattle.std.proofs.shelf.Tests.{both-ways, leb-true, le-leb}
 use Rattle.std.specs.Orderings.{Decides}
 use Rattle.weights.specs.Amounts.{numbers}
 use Rattle.weights.specs.Scales.{sumOf}
 use Rattle.forests.specs.Lists.{In}
-use Rattle.forests.specs.Closures.{Closure, Indep, Free, push, picks}
+use Rattle.forests.specs.Closures.{Indep, Free, push, picks}
 use Rattle.forests.specs.Graphs.{Spans, ClosesRing, Allowed}
 use Rattle.forests.specs.Labels.{below, closesRing}
 use Rattle.forests.proofs.Closure.{wider}
 use Rattle.forests.proofs.Completion.{picks-within, picks-indep}
 use Rattle.forests.proofs.Labelling.{chains}
-use Rattle.forests.proofs.LabelLists.{length-below}
 use Rattle.forests.proofs.Members.{in-parts, length-push, place}
 use Rattle.forests.proofs.Trees.{tree-free}
-use Rattle.cheapest.specs.Classes.{InSome, Reaches}
+use Rattle.cheapest.specs.Classes.{InSome}
 use Rattle.cheapest.specs.Completions.{completion}
 use Rattle.cheapest.specs.Plans.{graphOf, markOf, rankedOf, firstOf}
-use Rattle.cheapest.specs.Scans.{valueAt, ring, grown, Fronts, Placed, Filled}
+use Rattle.cheapest.specs.Scans.{valueAt, ring, grown, Filled}
 use Rattle.cheapest.specs.declared.candidates.Candidates.{Candidates}
 use Rattle.cheapest.proofs.Classes.{some-reaches, reaches-some}
 use Rattle.cheapest.proofs.Filling.{forest-short}
-use Rattle.cheapest.proofs.Growth.{placed-more}
 use Rattle.cheapest.proofs.Joining.{tree-size}
 use Rattle.cheapest.proofs.Listed.{keyOf, plan-fits, candidate-in, ends-fit}
 use Rattle.cheapest.proofs.Numbers.{numbers-lawful}

@@ -1,8 +1,6 @@
 -- A plan has a spanning tree if and only if its first row has one link less than there are sites.
-use mathlib.Core.List.{List}
 use mathlib.Core.Path.{_≡_}
-use Prim.Native.Nat.{ℕ, _+_}
-use native.Mathlib.Omega.{arith}
+use Prim.Native.Nat.{_+_}
 use lib.ListN.{length}
 use Rattle.weights.specs.Amounts.{numbers}
 use Rattle.cheapest.specs.Plans.{graphOf, markOf, firstOf}

@@ -30,3 +30,5 @@ pub mod Joining
 pub mod Stances
 pub mod Avoiding
 pub mod Belonging
+pub mod Swaps
+pub mod Exchanges

@@ -10,7 +10,7 @@ use Rattle.std.proofs.shelf.Lists.{ext-getD, length-map, getD-map}
 use Rattle.std.proofs.shelf.Tests.{cases-eq, leb-true}
 use Rattle.weights.specs.Amounts.{numbers}
 use Rattle.forests.specs.Lists.{In, Rising}
-use Rattle.forests.specs.Graphs.{Graph, Fits}
+use Rattle.forests.specs.Graphs.{Fits}
 use Rattle.forests.specs.Labels.{below}
 use Rattle.forests.proofs.Members.{in-getD}
 use Rattle.forests.proofs.LabelLists.{length-below, getD-below}

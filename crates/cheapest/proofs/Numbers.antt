@@ -1,9 +1,6 @@
 -- The natural numbers are a lawful scale, so that everything shown for lawful scales holds for marks.
-use lib.Dec.{leb}
-use mathlib.Core.Logic.{_⊎_, inl, inr}
-use mathlib.Core.Path.{_≡_}
-use mathlib.Core.Bool.{true, false}
-use Prim.Native.Nat.{ℕ, _+_}
+use mathlib.Core.Logic.{inl, inr}
+use Prim.Native.Nat.{_+_}
 use native.Mathlib.Omega.{arith}
 use Rattle.std.proofs.shelf.Tests.{leb-true, leb-false, le-leb, lt-leb, cases-lt}
 use Rattle.weights.specs.Scales.{Lawful}

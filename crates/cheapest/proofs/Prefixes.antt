@@ -1,6 +1,6 @@
 -- Prefixes of a row and their labels. One more candidate at the end of a prefix is one more at the front
 -- of the list in which the newest comes first, and its labels are the old ones with two made one.
-use mathlib.Core.List.{List, [], _∷_, _++_, reverseAux}
+use mathlib.Core.List.{List, [], _∷_, _++_}
 use mathlib.Core.Logic.{inl, inr}
 use mathlib.Core.Path.{_≡_, refl, sym, ap, _∙_}
 use Prim.Native.Nat.{ℕ, _+_, _<_}

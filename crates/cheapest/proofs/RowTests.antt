@@ -1,11 +1,11 @@
 -- The test that tells cheapest rows. One run over the candidates tells whether a list of links rises, is
 -- among the candidates and closes no ring; with the first row's amounts it is then a cheapest tree's row,
 -- and every such row passes.
-use mathlib.Core.Bool.{Bool, true, false, not, _&&_}
+use mathlib.Core.Bool.{Bool, true, false, not}
 use mathlib.Core.List.{List, [], _∷_, map}
 use mathlib.Core.Logic.{inl, inr}
 use mathlib.Core.Path.{_≡_, refl, sym, ap, subst, _∙_}
-use Prim.Native.Nat.{ℕ, _+_, _<_}
+use Prim.Native.Nat.{ℕ, _+_}
 use native.Mathlib.Omega.{arith}
 use lib.Dec.{eqb}
 use lib.ListN.{length}
@@ -82,6 +82,11 @@ module _ (list : Candidates) where
   rising : Rising (keyOf (list .plan)) (rankedOf (list .plan))
   rising = candidates-rising (graphOf (list .plan)) numbers numbers-lawful (markOf (list .plan))
 
+  pub free-passes : (row : List ℕ) → Rising (keyOf (list .plan)) row → Within row (rankedOf (list .plan)) → Free (ClosesRing (graphOf (list .plan))) [] row → passes list row ≡ true
+  free-passes row rises within free =
+      let g = graphOf (list .plan) in
+      passes-links row ∙ match-whole (ClosesRing g) (closesRing g) (chains (g .from) (g .to)) (keyOf (list .plan)) [] (rankedOf (list .plan)) row rising rises within free
+
   pub passes-best : (row : List ℕ) → passes list row ≡ true → map (markOf (list .plan)) row ≡ map (markOf (list .plan)) (firstOf (list .plan))
       → Best (graphSetting (graphOf (list .plan)) (keyOf (list .plan)) []) numbers (markOf (list .plan)) row
   passes-best row e level =
@@ -95,11 +100,7 @@ module _ (list : Candidates) where
       }
 
   pub best-passes : (row : List ℕ) → Best (graphSetting (graphOf (list .plan)) (keyOf (list .plan)) []) numbers (markOf (list .plan)) row → passes list row ≡ true
-  best-passes row b =
-      let p = list .plan in
-      let g = graphOf p in
-      passes-links row
-      ∙ match-whole (ClosesRing g) (closesRing g) (chains (g .from) (g .to)) (keyOf p) [] (rankedOf p) row rising (b .base .rises) (b .base .within) (b .base .free)
+  best-passes row b = free-passes row (b .base .rises) (b .base .within) (b .base .free)
 
   pub passes-cheapest : length (firstOf (list .plan)) + 1 ≡ list .plan .sites → (row : List ℕ) → passes list row ≡ true
       → map (markOf (list .plan)) row ≡ map (markOf (list .plan)) (firstOf (list .plan)) → Cheapest (graphOf (list .plan)) numbers (markOf (list .plan)) row

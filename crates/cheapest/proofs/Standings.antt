@@ -2,8 +2,8 @@
 -- prefixes, the marks that are wanted. What it stands on is the row of a cheapest tree if there is one; a
 -- search that found the next row of the wanted marks stands on the row that follows, and a search that
 -- found none shows that none follows.
-use mathlib.Core.Bool.{Bool, true, false}
-use mathlib.Core.List.{List, [], _∷_, _++_, map}
+use mathlib.Core.Bool.{Bool, true}
+use mathlib.Core.List.{List, [], _∷_, map}
 use mathlib.Core.Logic.{inl, inr}
 use mathlib.Core.Path.{_≡_, refl, sym, ap, subst, _∙_}
 use Prim.Native.Nat.{ℕ, _+_, _-_, _<_, _≤_}
@@ -15,7 +15,7 @@ use Rattle.weights.specs.Amounts.{numbers}
 use Rattle.forests.specs.Lists.{In}
 use Rattle.forests.specs.Closures.{push, picks}
 use Rattle.forests.specs.Labels.{find, below}
-use Rattle.forests.proofs.Members.{in-either, in-take, place}
+use Rattle.forests.proofs.Members.{in-either, place}
 use Rattle.forests.proofs.Completion.{picks-within}
 use Rattle.cheapest.specs.Completions.{departs, Good}
 use Rattle.cheapest.specs.Trees.{Cheapest, Follows, NoneFollows}
@@ -52,13 +52,13 @@ same-fronts n xs ys l e h =
     ext-getD 0 (take n xs) ys (size ∙ sym e) (λ j k. let less : j < n = omega (arith, size) in getD-take n xs j 0 less ∙ h j less)
 
 module _ (list : Candidates) (at : List ℕ) (n : ℕ) (wide : n ≤ length at) (inside : (j : ℕ) → j < n → getD at j 0 < list .count) where
-  small-front : (c : ℕ) → In c (take n at) → c < list .count
+  pub small-front : (c : ℕ) → In c (take n at) → c < list .count
   small-front c m =
       let p = place c (take n at) 0 m in
       let l : p .0 < n = omega (arith, p .1, length-take-le n at wide) in
       omega (arith, p .2, getD-take n at (p .0) 0 l, inside (p .0) l)
 
-  numbers-front : (row : List ℕ) → n ≤ length row → ((j : ℕ) → j < n → getD (list .number) (getD at j 0) 0 ≡ getD row j 0)
+  pub numbers-front : (row : List ℕ) → n ≤ length row → ((j : ℕ) → j < n → getD (list .number) (getD at j 0) 0 ≡ getD row j 0)
       → map (valueAt (list .number)) (take n at) ≡ take n row
   numbers-front row l h =
       let f = valueAt (list .number) in

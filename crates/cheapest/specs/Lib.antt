@@ -7,3 +7,4 @@ pub mod Classes
 pub mod Plans
 pub mod Scans
 pub mod Positions
+pub mod StandIns

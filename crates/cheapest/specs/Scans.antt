@@ -78,3 +78,9 @@ pub record Filled (start end : List ℕ) (n : ℕ) (front row : List ℕ) (stack
   pub whole : take r row ≡ grown start end n front 0
   pub fronts : Fronts start end row stack r
   pub inside : (j : ℕ) → j < r → getD row j 0 < n
+
+-- Candidate c is another link than the given one, has the given class, and closes no ring with the row.
+pub record Crosses (start end class number row : List ℕ) (link wanted c : ℕ) : Type 0 where
+  pub other : getD number c 0 ≡ link → ⊥
+  pub level : getD class c 0 ≡ wanted
+  pub apart : ring start end (push [] row) c ≡ false

@@ -1,7 +1,6 @@
 //! Reading the candidates out of a plan.
 
 ghost use mathlib.Core.Bool.{false};
-ghost use mathlib.Core.List.{List};
 ghost use mathlib.Core.Path.{_≡_};
 ghost use Prim.Native.Nat.{ℕ, _<_, _≤_};
 ghost use lib.ListN.{length, getD, take};

@@ -1,7 +1,7 @@
 //! Searches for a row: the first one, the one that follows, and the one of given links.
 
 ghost use mathlib.Core.List.{[]};
-ghost use Prim.Native.Nat.{_<_, _≤_};
+ghost use Prim.Native.Nat.{_<_};
 ghost use lib.ListN.{length, take};
 ghost use Rattle.cheapest.specs.Scans.{grown, Fronts, Placed, Moved, Matched, Filled};
 use crate::candidates::Candidates;

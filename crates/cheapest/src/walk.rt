@@ -1,9 +1,9 @@
 //! The inside of a walk through rows: the row in candidates, with the labels of all its prefixes.
 
 ghost use mathlib.Core.Bool.{not};
-ghost use mathlib.Core.List.{List, []};
+ghost use mathlib.Core.List.{[]};
 ghost use mathlib.Core.Path.{_≡_};
-ghost use Prim.Native.Nat.{ℕ, _+_, _<_, _≤_};
+ghost use Prim.Native.Nat.{ℕ, _+_, _<_};
 ghost use lib.ListN.{length, getD, set, take};
 ghost use Rattle.forests.specs.Closures.{push};
 ghost use Rattle.cheapest.specs.Scans.{ring, Fronts};

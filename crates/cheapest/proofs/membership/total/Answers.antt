@@ -1,8 +1,7 @@
 use borrow.Author.Needs.{needs}
 use mathlib.Core.Path.{ap, _∙_}
-use Prim.Native.Nat.{_+_, _<_}
-use native.Mathlib.Omega.{arith}
-use lib.ListN.{length, getD}
+use Prim.Native.Nat.{_+_}
+use lib.ListN.{getD}
 use Rattle.cheapest.specs.Scans.{valueAt}
 use Rattle.cheapest.proofs.Belonging.{sum-more}
 use Rattle.cheapest.proofs.membership.total.Needs as need

@@ -1,5 +1,4 @@
 use mathlib.Core.Path.{refl, sym, ap}
-use native.Mathlib.Omega.{arith}
 use Rattle.std.proofs.shelf.Tests.{not-true, not-false}
 use Rattle.cheapest.specs.declared.walk.Walk.{Walk}
 use Rattle.cheapest.proofs.Filling.{filling-skip, filling-room, filling-take, filling-moved, filled}

@@ -1,6 +1,5 @@
 use borrow.Author.Needs.{needs}
 use mathlib.Core.Path.{refl}
-use native.Mathlib.Omega.{arith}
 use Rattle.cheapest.proofs.Prefixes.{fronts-more}
 use Rattle.cheapest.proofs.walk.choose.Needs as need
 

@@ -2,7 +2,7 @@ use mathlib.Core.Path.{refl, ap, _∙_}
 use mathlib.Core.Bool.{Bool, false}
 use mathlib.Core.List.{List}
 use native.Mathlib.Omega.{arith}
-use lib.ListN.{length, getD}
+use lib.ListN.{getD}
 use Rattle.cheapest.proofs.Avoiding.{closed-at, closed-past, closed-graph}
 use Rattle.cheapest.proofs.plan.Plan.without.Needs as need
 use Rattle.cheapest.proofs.plan.Plan.without.Needs.{then-link-lt512, else-link-lt512}
