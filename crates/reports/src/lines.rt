@@ -2,6 +2,7 @@
 
 ghost use Prim.Native.Nat.{ℕ};
 ghost use mathlib.Core.Path.{_≡_};
+ghost use lib.ListN.{getD};
 ghost use Rattle.networks.specs.Refusals.{lineOf};
 ghost use Rattle.texts.specs.Lines.{lineBytes};
 ghost use Rattle.reports.specs.Answers.{kindOf, Answers, AnswersAs, lineOfAnswer, soundLine, toldOf};
@@ -28,11 +29,18 @@ use weights::PairKind;
 pub fn kind_of(sheet: &[u8]) -> Kind
     ensures { λ r. ⌜ r ≡ kindOf (now (sheet .entry)) ⌝ }
 {
-    if sheet.len() > 5 && sheet[5] == b'P' {
+    if kind_byte(sheet) == b'P' {
         Kind::CrossingsMetres
     } else {
         Kind::Metres
     }
+}
+
+/// Byte 5 of a sheet, or 0 where it has none.
+fn kind_byte(sheet: &[u8]) -> u8
+    ensures { λ r. ⌜ r ≡ getD (now (sheet .entry)) 5 0 ⌝ }
+{
+    if sheet.len() > 5 { sheet[5] } else { 0 }
 }
 
 /// Loads the sheet as a network of the kind that it is read as, and answers its sites and links, or the refusal.
