@@ -18,6 +18,8 @@
 //! any scale, then what ties the code to it (`Growth` and `Searches` for the runs over candidates,
 //! `Translation` from candidates to links, `Standings` and `Stances` for a walk and its steps).
 
+#![tactic(auto)]
+
 mod candidates;
 mod closing;
 mod completing;

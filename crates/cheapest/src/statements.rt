@@ -8,57 +8,57 @@ use weights::WeightKind;
 
 /// Ranks tell links apart, and follow their amounts.
 fn ranks_tell_stands<K: WeightKind>()
-    ensures { RanksTell scale }
+    ensures { RanksTell K.WeightKind.scale }
 {}
 
 /// The links of a spanning tree have exactly one row.
 fn one_row_stands<K: WeightKind>()
-    ensures { OneRow scale }
+    ensures { OneRow K.WeightKind.scale }
 {}
 
 /// The first row is a cheapest tree's and the first of them, or there is no spanning tree.
 fn first_row_stands<K: WeightKind>()
-    ensures { FirstRowStands scale }
+    ensures { FirstRowStands K.WeightKind.scale }
 {}
 
 /// The cheapest rows are those with the first row's amounts, position by position.
 fn position_stands<K: WeightKind>()
-    ensures { Position scale }
+    ensures { Position K.WeightKind.scale }
 {}
 
 /// The completion of a forest has the least total of all that could complete it.
 fn least_total_stands<K: WeightKind>()
-    ensures { LeastTotal scale }
+    ensures { LeastTotal K.WeightKind.scale }
 {}
 
 /// After the row of a cheapest tree comes its last good departure, and if it has none it is the last row.
 fn successor_stands<K: WeightKind>()
-    ensures { Successor scale }
+    ensures { Successor K.WeightKind.scale }
 {}
 
 /// There is exactly one full list.
 fn one_list_stands<K: WeightKind>()
-    ensures { OneFullList scale }
+    ensures { OneFullList K.WeightKind.scale }
 {}
 
 /// Links stand together in some cheapest tree exactly if their completion has the least total.
 fn in_some_stands<K: WeightKind>()
-    ensures { InSomeStands scale }
+    ensures { InSomeStands K.WeightKind.scale }
 {}
 
 /// Some cheapest tree does without closed links exactly if the first row without them has the least total.
 fn avoidable_stands<K: WeightKind>()
-    ensures { AvoidableStands scale }
+    ensures { AvoidableStands K.WeightKind.scale }
 {}
 
 /// A link is in every cheapest tree exactly if none does without it.
 fn in_every_stands<K: WeightKind>()
-    ensures { InEveryStands scale }
+    ensures { InEveryStands K.WeightKind.scale }
 {}
 
 /// A link stands in for another exactly if both have one amount.
 fn substitute_stands<K: WeightKind>()
-    ensures { SubstituteStands scale }
+    ensures { SubstituteStands K.WeightKind.scale }
 {}
 
 /// Amounts that compare alike, on whatever scales, give the same cheapest rows and one full list.

@@ -1,6 +1,8 @@
 //! Answers many sheets in one run: each comes on standard input behind two bytes for its length, and each answer is a
 //! line. What it must print was written by an independent reader (tests/make-corpus).
 
+#![tactic(auto)]
+
 use reports::answer;
 use std::io;
 use std::io::{Read, Write};

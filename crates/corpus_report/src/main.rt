@@ -1,6 +1,8 @@
 //! Reports many sheets in one run: each comes on standard input behind two bytes for its length, and for each all is
 //! printed that `trees` prints. What it must print was written by an independent reader (tests/make-corpus).
 
+#![tactic(auto)]
+
 use reports::{Printer, report};
 use std::io;
 use std::io::Read;

@@ -1,5 +1,7 @@
 //! Counts the trees of complete networks of 3 to 7 sites at one price. By symmetry each link is in equally many.
 
+#![tactic(auto)]
+
 ghost use Rattle.std.specs.Prelude.{◌≡◌, ℕ, ◌<◌, Decides};
 ghost use Rattle.receivers.specs.Tallies.{tallied};
 ghost use Rattle.receivers.specs.Tallying.{times_in};

@@ -1,6 +1,8 @@
 //! Goes over every network of 1 to 4 sites and up to 4 links of 0 to 2 metres, and compares what networks answer about
 //! classes and trials with answers that are found another way: by looking at every set of links.
 
+#![tactic(auto)]
+
 mod cases;
 mod comparing;
 mod rows;

@@ -6,6 +6,8 @@
 //! and its lowest place among all forests. The definitions stand in `specs/`, the proofs in `proofs/`.
 //! Each function below stands for a theorem, which its contract states.
 
+#![tactic(auto)]
+
 pub mod merging;
 
 ghost use Rattle.forests.specs.Theorems.{Exchange, ForestSize, ForestJoins, TreesAreForests, JoinedTree, Labelled, CompletionLowest};

@@ -1,6 +1,8 @@
 //! Link records and the networks made of them: what a record is, when records are refused, how links rank, what a row
 //! of links costs, and which links are closed.
 
+#![tactic(auto)]
+
 pub mod classes;
 pub mod classifying;
 pub mod closed;

@@ -5,6 +5,8 @@
 //! from that alone and serves all of them: the keeper and the text writer, which write into a passed list, and the
 //! tally, which counts.
 
+#![tactic(auto)]
+
 pub mod callers;
 pub mod keeper;
 mod places;

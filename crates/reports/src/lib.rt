@@ -1,5 +1,7 @@
 //! What the program `trees` prints of a sheet.
 
+#![tactic(auto)]
+
 pub mod answers;
 pub mod lines;
 mod listing;

@@ -1,5 +1,7 @@
 //! Worked examples: what the layers answer on the sample networks, and each refusal at its lowest and highest edge.
 
+#![tactic(auto)]
+
 mod edges;
 mod networks_of_records;
 mod outcomes;

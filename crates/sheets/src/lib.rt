@@ -1,5 +1,7 @@
 //! Network sheets: link records as bytes, read and written.
 
+#![tactic(auto)]
+
 pub mod kinds;
 pub mod loading;
 mod reader;

@@ -1,6 +1,8 @@
 //! Lists all rows of the complete network of each number of sites among the arguments, and prints that number and the
 //! number of rows. It is timed by speed/run.
 
+#![tactic(auto)]
+
 use complete::{complete, pour_all};
 use networks::Network;
 use receivers::Tally;

@@ -1,5 +1,7 @@
 //! Short texts in places of a fixed number: the decimal digits of a number, and lines of at most 64 bytes.
 
+#![tactic(auto)]
+
 pub mod digits;
 pub mod lines;
 pub mod types;

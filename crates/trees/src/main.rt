@@ -1,5 +1,7 @@
 //! `trees` reads a network sheet from standard input and says what it holds, or why it is refused.
 
+#![tactic(auto)]
+
 use reports::answer;
 use std::io;
 use std::io::{Read, Write};

@@ -1,5 +1,7 @@
 //! `trees` reads a network sheet from standard input and prints its cheapest trees, or why it is refused.
 
+#![tactic(auto)]
+
 use reports::{Printer, report};
 use std::io;
 use std::io::Read;

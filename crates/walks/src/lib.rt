@@ -5,6 +5,8 @@
 //! it. The laws leave one answer to every call, so two runs over one full list in which the same is asked are
 //! equal. Each function below stands for a theorem, which its contract states.
 
+#![tactic(auto)]
+
 mod endings;
 pub mod performing;
 mod pouring;

@@ -4,6 +4,8 @@
 //! Whatever is written over the trait `WeightKind` is proved once, from the laws alone, and serves every kind:
 //! metres, crossings, and the pair of any two kinds, in which the first side decides.
 
+#![tactic(auto)]
+
 pub mod crossings;
 pub mod kinds;
 pub mod metres;

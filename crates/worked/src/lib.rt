@@ -3,6 +3,8 @@
 //! They follow from the definitions, whatever a program does. The function below stands for all of them
 //! together; its contract states them.
 
+#![tactic(auto)]
+
 pub mod opened;
 
 ghost use Rattle.worked.specs.WorkedExamples.{WorkedExamples};
