@@ -53,4 +53,4 @@ pub record SpanningTree (g : Graph) (S : List ℕ) : Type 0 where
 
 -- There are sites, and some usable links join them all: chains of usable links lead from every site to every other.
 abbrev pub SitesJoined : Graph → Type 0
-SitesJoined g = (1 ≤ g.sites) × ((S : List ℕ) × Allowed g S × JoinsAll g.from g.to g.sites S)
+SitesJoined g = (1 ≤ g.sites) × (S : List ℕ) × Allowed g S × JoinsAll g.from g.to g.sites S
