@@ -21,7 +21,7 @@ pub returns : goal.returns
 returns c =
     let list = c.args.list.now in
     record {
-      total = c.total.ensures ∙ ap (sum_of numbers) (filled_marks list c.first-row-size.ensures);
-      size = filled_size list c.first-row-size.new.walk.wide c.first-row-size.ensures;
-      few = c.first-row-size.ensures.few;
+      total = c.total.ensures ∙ ap (sum_of numbers) (filled_marks list c.first_row-size.ensures);
+      size = filled_size list c.first_row-size.new.walk.wide c.first_row-size.ensures;
+      few = c.first_row-size.ensures.few;
     }

@@ -8,28 +8,28 @@ use Rattle.cheapest.proofs.Stances.{refused}
 use Rattle.cheapest.proofs.membership.some_has.Goals as goal
 
 pub returns-then-c-list : goal.returns-then-c-list
-returns-then-c-list c = refused (none_some c.args.list.now c.args.link (c.candidate-of-c.ensures.none c.if-c-list.true))
+returns-then-c-list c = refused (none_some c.args.list.now c.args.link (c.candidate_of-c.ensures.none c.if-c-list.true))
 
 pub returns-then-list-c : goal.returns-then-list-c
 returns-then-list-c c =
     let list = c.args.list.now in
     let here = c.if-c-list.false in
-    subst (λ (e : ℕ). Decides _ (InSome (graph_of list.plan) numbers (mark_of list.plan) (e ∷ []))) (c.candidate-of-c.ensures.found here)
-    (refused (loop_none list c.candidate-of-c.result here (eq-eqb _ _ c.if-list-c.true)))
+    subst (λ (e : ℕ). Decides _ (InSome (graph_of list.plan) numbers (mark_of list.plan) (e ∷ []))) (c.candidate_of-c.ensures.found here)
+    (refused (loop_none list c.candidate_of-c.result here (eq-eqb _ _ c.if-list-c.true)))
 
 pub overflow-add-size : goal.overflow-add-size
 overflow-add-size c = let few = c.least-total-least.ensures.few in search rules
 
 pub returns-then-size-list : goal.returns-then-size-list
 returns-then-size-list c =
-    refused (apart_some c.args.list.now (λ e. c.if-size-list.true (omega (arith, c.least-total-least.ensures.size, e))) (c.args.link ∷ []))
+    refused (apart_some c.args.list.now (λ e. c.if-size-list.true (omega (arith, c.least_total-least.ensures.size, e))) (c.args.link ∷ []))
 
 pub returns : goal.returns
 returns c =
     let list = c.args.list.now in
     let here = c.if-c-list.false in
-    let least = c.least-total-least.ensures in
-    subst (λ (e : ℕ). Decides c.is-least.result (InSome (graph_of list.plan) numbers (mark_of list.plan) (e ∷ []))) (c.candidate-of-c.ensures.found here)
-    (subst (λ (b : Bool). Decides b (InSome (graph_of list.plan) numbers (mark_of list.plan) (get_or list.number c.candidate-of-c.result 0 ∷ []))) (sym c.is-least.ensures)
-    (some_by_total list c.candidate-of-c.result here (ne_eqb _ _ c.if-list-c.false)
-    (omega (arith, least.size, c.if-size-list.false)) c.total-with.result c.least-total-least.result.0 c.total-with.ensures least.total))
+    let least = c.least_total-least.ensures in
+    subst (λ (e : ℕ). Decides c.is_least.result (InSome (graph_of list.plan) numbers (mark_of list.plan) (e ∷ []))) (c.candidate_of-c.ensures.found here)
+    (subst (λ (b : Bool). Decides b (InSome (graph_of list.plan) numbers (mark_of list.plan) (get_or list.number c.candidate_of-c.result 0 ∷ []))) (sym c.is_least.ensures)
+    (some_by_total list c.candidate_of-c.result here (ne_eqb _ _ c.if-list-c.false)
+    (omega (arith, least.size, c.if-size-list.false)) c.total-with.result c.least_total-least.result.0 c.total-with.ensures least.total))

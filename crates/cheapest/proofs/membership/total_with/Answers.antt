@@ -35,5 +35,5 @@ returns c =
     let after = c.choose.new.walk in
     c.total.ensures
     ∙ ap (λ (xs : List ℕ). sum_of numbers (map (value_at list.class) xs))
-    (c.first-row-size.ensures.whole
+    (c.first_row-size.ensures.whole
     ∙ ap (λ (front : List ℕ). grown list.start list.end list.count front 0) (one_taken walk.at after.at c.args.c walk.wide c.choose.ensures.row))

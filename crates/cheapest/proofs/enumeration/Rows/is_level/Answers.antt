@@ -20,6 +20,6 @@ returns c =
     let rows = c.args.self.now in
     let row = c.args.row.now in
     record {
-      passes = λ e. record { joined = c.if-self.false; size = c.if-row-self.false; marks = c.has-marks.ensures.good e };
-      refuses = λ e. refused (λ l. c.has-marks.ensures.bad e (listed_bound rows row l) (listed_marks rows row l));
+      passes = λ e. record { joined = c.if-self.false; size = c.if-row-self.false; marks = c.has_marks.ensures.good e };
+      refuses = λ e. refused (λ l. c.has_marks.ensures.bad e (listed_bound rows row l) (listed_marks rows row l));
     }

@@ -37,7 +37,7 @@ returns c =
     let row = c.args.row.now in
     let found = c.if-not-place.ensures in
     let size = c.requires.size in
-    let e = c.read-links.ensures in
+    let e = c.read_links.ensures in
     let small = rows.small in
     record {
       plan = refl;
@@ -47,8 +47,8 @@ returns c =
       );
       moves = λ _. (
         refl,
-        same_fronts rows.size c.read-links.new.out row (omega (arith, e.len)) size
-            (read_again rows.list row c.read-links.new.out rows.size found size e.writes),
+        same_fronts rows.size c.read_links.new.out row (omega (arith, e.len)) size
+            (read_again rows.list row c.read_links.new.out rows.size found size e.writes),
       );
       stays = λ x. absurd (true≢false x);
     }

@@ -48,12 +48,12 @@ pub returns : goal.returns
 returns c =
     let rows = c.args.self.now in
     let some = c.if-reach-eq0.false in
-    let e = c.read-links.ensures in
+    let e = c.read_links.ensures in
     record {
       plan = refl;
       moves = λ _. steps_follow rows _ c.requires c.requires
           (next_follows (standing rows) (take rows.size rows.wanted) refl c.follow-reach.ensures (c.follow-reach.result - 1) (omega arith) c.follow-reach.new.walk.wide
-          c.read-links.new.out e.len e.keeps e.writes (rows.joins c.requires));
+          c.read_links.new.out e.len e.keeps e.writes (rows.joins c.requires));
       ends = λ x. absurd (true≢false x);
       stays = λ x. absurd (true≢false x);
     }

@@ -6,7 +6,7 @@ use Rattle.cheapest.proofs.plan.Plan.avoids.Goals as goal
 pub returns-then-size-self : goal.returns-then-size-self
 returns-then-size-self c = (
   (λ _. every_apart c.args.self.now c.args.link c.without.result c.without.ensures.graph c.without.ensures.marks
-      (λ e. c.if-size-self.true (omega (arith, c.first-marks-size.ensures.size)))),
+      (λ e. c.if-size-self.true (omega (arith, c.first_marks-size.ensures.size)))),
   (λ _. refl),
 )
 
@@ -21,9 +21,9 @@ pub returns : goal.returns
 returns c =
     let p = c.args.self.now in
     let q = c.without.result in
-    let mine = c.first-marks-size.ensures in
-    let others = c.first-marks-other-size.ensures in
-    let level = c.if-other-size-size.false in
+    let mine = c.first_marks-size.ensures in
+    let others = c.first_marks-other_size.ensures in
+    let level = c.if-other_size-size.false in
     let agree = c.same-marks.result in (
       (λ e. every_marks p c.args.link q c.without.ensures.graph c.without.ensures.marks
           (λ same. both_ways agree (not-true agree e) (c.same-marks.ensures.1
