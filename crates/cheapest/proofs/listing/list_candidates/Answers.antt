@@ -2,8 +2,8 @@ use Rattle.std.proofs.Common.{arith}
 use Rattle.cheapest.proofs.Selection.{selected_all, selected_at}
 use Rattle.cheapest.proofs.listing.list_candidates.Goals as goal
 
-pub invariant-of-result : goal.invariant-of-result
-invariant-of-result c =
+pub invariant_of-result : goal.invariant_of-result
+invariant_of-result c =
     let plan = c.args.plan in
     let few = plan.few in
     let e = c.select-count.ensures in
@@ -15,14 +15,14 @@ invariant-of-result c =
         (
           selected_at plan number n (omega (arith, e.len, e.few)) e.selects,
           (
-            c.bytes-of-start.ensures,
+            c.bytes_of-start.ensures,
             (
-              c.bytes-of-end.ensures,
+              c.bytes_of-end.ensures,
               (
-                c.marks-of-class.ensures,
+                c.marks_of-class.ensures,
                 (
-                  (λ k l. omega (arith, c.bytes-of-start.ensures k l, plan.starts _ (e.inside k l))),
-                  ((λ k l. omega (arith, c.bytes-of-end.ensures k l, plan.ends _ (e.inside k l))), tt),
+                  (λ k l. omega (arith, c.bytes_of-start.ensures k l, plan.starts _ (e.inside k l))),
+                  ((λ k l. omega (arith, c.bytes_of-end.ensures k l, plan.ends _ (e.inside k l))), tt),
                 ),
               ),
             ),

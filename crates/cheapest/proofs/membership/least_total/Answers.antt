@@ -7,8 +7,8 @@ use Rattle.cheapest.proofs.Listed.{ends_fit}
 use Rattle.cheapest.proofs.Standings.{placed_none}
 use Rattle.cheapest.proofs.membership.least_total.Goals as goal
 
-pub first-row-size-requires : goal.first-row-size-requires
-first-row-size-requires c =
+pub first_row-size-requires : goal.first_row-size-requires
+first_row-size-requires c =
     let list = c.args.list.now in
     let walk = c.empty-walk.result in
     record {

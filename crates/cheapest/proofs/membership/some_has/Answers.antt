@@ -17,8 +17,8 @@ returns-then-list-c c =
     subst (λ (e : ℕ). Decides _ (InSome (graph_of list.plan) numbers (mark_of list.plan) (e ∷ []))) (c.candidate_of-c.ensures.found here)
     (refused (loop_none list c.candidate_of-c.result here (eq-eqb _ _ c.if-list-c.true)))
 
-pub overflow-add-size : goal.overflow-add-size
-overflow-add-size c = let few = c.least-total-least.ensures.few in search rules
+pub overflow_add-size : goal.overflow_add-size
+overflow_add-size c = let few = c.least_total-least.ensures.few in search rules
 
 pub returns-then-size-list : goal.returns-then-size-list
 returns-then-size-list c =
@@ -32,4 +32,4 @@ returns c =
     subst (λ (e : ℕ). Decides c.is_least.result (InSome (graph_of list.plan) numbers (mark_of list.plan) (e ∷ []))) (c.candidate_of-c.ensures.found here)
     (subst (λ (b : Bool). Decides b (InSome (graph_of list.plan) numbers (mark_of list.plan) (get_or list.number c.candidate_of-c.result 0 ∷ []))) (sym c.is_least.ensures)
     (some_by_total list c.candidate_of-c.result here (ne_eqb _ _ c.if-list-c.false)
-    (omega (arith, least.size, c.if-size-list.false)) c.total-with.result c.least_total-least.result.0 c.total-with.ensures least.total))
+    (omega (arith, least.size, c.if-size-list.false)) c.total_with.result c.least_total-least.result.0 c.total_with.ensures least.total))

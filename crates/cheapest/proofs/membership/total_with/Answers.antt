@@ -11,8 +11,8 @@ use Rattle.cheapest.proofs.membership.total_with.Goals as goal
 one_taken : (at row : List ℕ) (c : ℕ) → length at ≡ 64 → row ≡ set at 0 c → take 1 row ≡ c ∷ []
 one_taken at row c wide e = ap (take 1) e ∙ take_more_set at 0 c (omega arith)
 
-pub first-row-size-requires : goal.first-row-size-requires
-first-row-size-requires c =
+pub first_row-size-requires : goal.first_row-size-requires
+first_row-size-requires c =
     let list = c.args.list.now in
     let walk = c.empty-walk.result in
     let after = c.choose.new.walk in

@@ -8,7 +8,7 @@ pub loop-site-preserved : goal.loop-site-preserved
 loop-site-preserved c =
     let site = c.loop-site.site in
     let was = vec_items c.loop-site.links in
-    let now = vec_items c.link-back.new.links in
+    let now = vec_items c.link_back.new.links in
     let next : suc site ≡ site + 1 = omega arith in
-    subst (λ r. IfOk r (λ _. now ≡ was ++ links_back site)) c.in-default.is c.link-back.ensures
+    subst (λ r. IfOk r (λ _. now ≡ was ++ links_back site)) c.in_default.is c.link_back.ensures
     ∙ ap (λ (links : List (Link Metres)). links ++ links_back site) c.loop-site.invariant ∙ ap links_below next

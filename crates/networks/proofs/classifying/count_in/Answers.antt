@@ -9,7 +9,7 @@ pub loop-link-init : goal.loop-link-init
 loop-link-init c = (omega arith, counted_none _)
 
 pub loop-link-preserved : goal.loop-link-preserved
-loop-link-preserved c = counted_step _ c.loop-link.link c.loop-link.count c.has-class.result c.has-class.ensures c.loop-link.invariant
+loop-link-preserved c = counted_step _ c.loop-link.link c.loop-link.count c.has_class.result c.has_class.ensures c.loop-link.invariant
 
 pub returns : goal.returns
 returns c =

@@ -13,8 +13,8 @@ loop-x-preserved g c =
     let p : ℕ → Bool = λ x. not (k.scale.le (w c.args.link) (w x)) in
     let here = weight_at k.scale k.amount links c.args.link c.index-links-link.result c.requires in
     let there = weight_at k.scale k.amount links c.loop-x.x c.index-links-x.result c.loop-x-test.true in
-    let level : c.at-most-level.result ≡ k.scale.le (w c.args.link) (w c.loop-x.x) = (let e = c.at-most-level.ensures in cc) in
-    count_step p c.loop-x.x c.loop-x.lighter (not c.at-most-level.result) c.loop-x.invariant.0 c.loop-x.invariant.1 (ap not level)
+    let level : c.at_most-level.result ≡ k.scale.le (w c.args.link) (w c.loop-x.x) = (let e = c.at_most-level.ensures in cc) in
+    count_step p c.loop-x.x c.loop-x.lighter (not c.at_most-level.result) c.loop-x.invariant.0 c.loop-x.invariant.1 (ap not level)
 
 pub returns : goal.returns
 returns g c =

@@ -15,9 +15,9 @@ loop-link-preserved c =
     let link = c.loop-link.link in
     let l = c.loop-link.invariant.0 in
     let here = lt-ltb link c.args.count c.loop-link-test.true in
-    let one : c.is-open.result ≡ open_below closed c.args.count link = (let e = c.is-open.ensures in rw here e) in (
-      length-set c.loop-link.open link c.is-open.result ∙ l,
-      filled_more false (open_below closed c.args.count) c.loop-link.open link c.is-open.result (let p = c.requires in let t = c.loop-link-test.true in omega arith)
+    let one : c.is_open.result ≡ open_below closed c.args.count link = (let e = c.is_open.ensures in rw here e) in (
+      length-set c.loop-link.open link c.is_open.result ∙ l,
+      filled_more false (open_below closed c.args.count) c.loop-link.open link c.is_open.result (let p = c.requires in let t = c.loop-link-test.true in omega arith)
           one c.loop-link.invariant.1,
     )
 

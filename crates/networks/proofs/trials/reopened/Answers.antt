@@ -8,6 +8,6 @@ returns c =
     let p = c.args.plan.now in
     record {
       graph = same_graph p.sites p.count p.count (λ e. get_or p.from e 0) (λ e. get_or p.from e 0) (λ e. get_or p.to e 0) (λ e. get_or p.to e 0)
-          (λ e. get_or c.open-links.result e false) (open_below c.args.closed.now p.count) refl (λ _. refl) (λ _. refl) c.open-links.ensures.opens;
+          (λ e. get_or c.open_links.result e false) (open_below c.args.closed.now p.count) refl (λ _. refl) (λ _. refl) c.open_links.ensures.opens;
       marks = refl;
     }

@@ -14,11 +14,11 @@ returns c =
     let p = c.args.plan.now in
     let link = c.args.link in
     let list = c.args.list.now in
-    let list' = c.write-first.new.list in
-    let r = c.write-first.result in
+    let list' = c.write_first.new.list in
+    let r = c.write_first.result in
     let xs = states_of c.args.closed.now in
     let now-closed = c.put.new.self in
-    let was = c.is-closed-was.ensures in
+    let was = c.is_closed-was.ensures in
     let opened : open_only now-closed (graph_of p) ≡ without (graph_of p) link =
     same_graph p.sites p.count p.count (λ e. get_or p.from e 0) (λ e. get_or p.from e 0) (λ e. get_or p.to e 0) (λ e. get_or p.to e 0)
     (open_below now-closed p.count) (λ e. get_or p.usable e false && not (eqb e link)) refl (λ _. refl) (λ _. refl)
@@ -26,11 +26,11 @@ returns c =
     ∙ ap (λ (b : Bool). b && not (eqb e link)) (sym (c.requires.open e))) in
     let graph : graph_of c.reopened.result ≡ without (graph_of p) link = c.reopened.ensures.graph ∙ opened in
     record {
-      joined = subst (λ (g : Graph). Decides r (SitesJoined g)) graph c.write-first.ensures.joined;
+      joined = subst (λ (g : Graph). Decides r (SitesJoined g)) graph c.write_first.ensures.joined;
       writes = subst (λ (w : ℕ → ℕ). FirstWritten (without (graph_of p) link) numbers w r list list') c.reopened.ensures.marks
-          (subst (λ (g : Graph). FirstWritten g numbers (mark_of c.reopened.result) r list list') graph c.write-first.ensures.writes);
+          (subst (λ (g : Graph). FirstWritten g numbers (mark_of c.reopened.result) r list list') graph c.write_first.ensures.writes);
       restores = λ e. ap (λ (ys : List Bool). get_or ys e false) c.drop-guard.ensures
-          ∙ ap (λ (ys : List Bool). get_or (set ys link c.is-closed-was.result) e false) c.put.ensures
+          ∙ ap (λ (ys : List Bool). get_or (set ys link c.is_closed-was.result) e false) c.put.ensures
           ∙ ap (λ (b : Bool). get_or (set (set xs link true) link b) e false) was
           ∙ put_back xs link e;
     }

@@ -6,6 +6,6 @@ pub returns : goal.returns
 returns c =
     record {
       end = omega arith;
-      front = behind c.args.cells.now c.args.row.now c.copy-from-slice.new.self c.args.start c.requires.room c.copy-from-slice.ensures.after;
-      rest = past c.args.cells.now c.args.row.now c.copy-from-slice.new.self c.args.start c.requires.room c.copy-from-slice.ensures.after;
+      front = behind c.args.cells.now c.args.row.now c.copy_from_slice.new.self c.args.start c.requires.room c.copy_from_slice.ensures.after;
+      rest = past c.args.cells.now c.args.row.now c.copy_from_slice.new.self c.args.start c.requires.room c.copy_from_slice.ensures.after;
     }

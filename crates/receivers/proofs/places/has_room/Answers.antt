@@ -3,8 +3,8 @@ use Rattle.std.proofs.lemmas.List.{length-take}
 use Rattle.receivers.proofs.Fronts.{leb_left}
 use Rattle.receivers.proofs.places.has_room.Goals as goal
 
-pub overflow-sub-result : goal.overflow-sub-result
-overflow-sub-result g c = omega (arith, c.reach-used.ensures, length-take c.args.used c.args.cells.now)
+pub overflow_sub-result : goal.overflow_sub-result
+overflow_sub-result g c = omega (arith, c.reach-used.ensures, length-take c.args.used c.args.cells.now)
 
 pub returns : goal.returns
 returns g c =

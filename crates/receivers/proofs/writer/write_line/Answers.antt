@@ -7,8 +7,8 @@ returns c =
     let cells = c.args.cells.now in
     let line = c.args.line.now in
     let start = c.args.start in
-    let part = c.copy-from-slice.new.self in
-    let is = c.copy-from-slice.ensures.after in
+    let part = c.copy_from_slice.new.self in
+    let is = c.copy_from_slice.ensures.after in
     record {
       end = omega arith;
       front = take-put_mid start _ cells part (start + length line) (omega (arith, ap length is)) (omega arith) ∙ ap (λ xs. take start cells ++ xs) is;

@@ -6,7 +6,7 @@ use Rattle.reports.proofs.listing.list.Goals as goal
 pub returns-then-letter-ne76 : goal.returns-then-letter-ne76
 returns-then-letter-ne76 g c =
     let k = g.K.WeightKind in
-    let r = c.list-rows-count in
+    let r = c.list_rows-count in
     let before = c.args.walk.now in
     let start = c.args.out.now in
     record {
@@ -18,7 +18,7 @@ returns-then-letter-ne76 g c =
 pub returns-then-follows : goal.returns-then-follows
 returns-then-follows g c =
     let k = g.K.WeightKind in
-    let r = c.list-rows-count in
+    let r = c.list_rows-count in
     let f = c.follows in
     let says = subst (λ (b : Bool). SaysFollows k.scale k.amount r.new.walk f.new.walk b) c.if-follows.true f.ensures.says in
     record {
@@ -31,7 +31,7 @@ returns-then-follows g c =
 pub returns-else-follows : goal.returns-else-follows
 returns-else-follows g c =
     let k = g.K.WeightKind in
-    let r = c.list-rows-count in
+    let r = c.list_rows-count in
     let f = c.follows in
     let says = subst (λ (b : Bool). SaysFollows k.scale k.amount r.new.walk f.new.walk b) c.if-follows.false f.ensures.says in
     record {

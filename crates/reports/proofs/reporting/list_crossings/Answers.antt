@@ -20,13 +20,13 @@ pub returns : goal.returns
 returns g c =
     let took = g.S.Sink.took in
     let o = c.args.out.now in
-    let o1 = c.put-answer.new.out in
-    let o3 = c.put-last.new.out in
+    let o1 = c.put_answer.new.out in
+    let o3 = c.put_last.new.out in
     let listed = c.list-count in
-    let each = c.crossings-each-total in
+    let each = c.crossings_each-total in
     let same = c.begin-walk.ensures.network in
-    let first = subst (λ (a : Answer). PutOut took o (lineOfAnswer a ++ (10 ∷ [])) o1) c.sound.ensures c.put-answer.ensures in
+    let first = subst (λ (a : Answer). PutOut took o (lineOfAnswer a ++ (10 ∷ [])) o1) c.sound.ensures c.put_answer.ensures in
     let begins = subst (λ (n : Network (Pair Crossings Metres)). PutOut took o (soundLine (sites_of n) (length (links_of n)) ++ (10 ∷ [])) o1) (sym same) first in
     subst (λ (n : Network (Pair Crossings Metres)). PutsNetwork (pairs numbers numbers) (λ (w : Pair Crossings Metres). (w.first.0, w.second.0)) crossings_text took n o o3) same
     (report_of (pairs numbers numbers) (pairs_lawful numbers numbers numbers_lawful numbers_lawful) (λ (w : Pair Crossings Metres). (w.first.0, w.second.0)) crossings_text c.begin-walk.result listed.new.walk took o o1 listed.new.out o3 listed.result.0 listed.result.1 (total_text each.result)
-    listed.ensures.network listed.ensures.lists each.ensures begins c.put-last.ensures)
+    listed.ensures.network listed.ensures.lists each.ensures begins c.put_last.ensures)

@@ -17,13 +17,13 @@ pub returns : goal.returns
 returns g c =
     let took = g.S.Sink.took in
     let o = c.args.out.now in
-    let o1 = c.put-answer.new.out in
-    let o3 = c.put-last.new.out in
+    let o1 = c.put_answer.new.out in
+    let o3 = c.put_last.new.out in
     let listed = c.list-count in
-    let each = c.metres-each-total in
+    let each = c.metres_each-total in
     let same = c.begin-walk.ensures.network in
-    let first = subst (λ (a : Answer). PutOut took o (lineOfAnswer a ++ (10 ∷ [])) o1) c.sound.ensures c.put-answer.ensures in
+    let first = subst (λ (a : Answer). PutOut took o (lineOfAnswer a ++ (10 ∷ [])) o1) c.sound.ensures c.put_answer.ensures in
     let begins = subst (λ (n : Network Metres). PutOut took o (soundLine (sites_of n) (length (links_of n)) ++ (10 ∷ [])) o1) (sym same) first in
     subst (λ (n : Network Metres). PutsNetwork numbers (λ (w : Metres). w.0) metres_text took n o o3) same
     (report_of numbers numbers_lawful (λ (w : Metres). w.0) metres_text c.begin-walk.result listed.new.walk took o o1 listed.new.out o3 listed.result.0 listed.result.1 (total_text each.result)
-    listed.ensures.network listed.ensures.lists each.ensures begins c.put-last.ensures)
+    listed.ensures.network listed.ensures.lists each.ensures begins c.put_last.ensures)

@@ -19,7 +19,7 @@ returns-in-Ok g c =
     let metres : Metres = record { 0 = 0 } in
     let weight : Pair Crossings Metres = record { first = crossings; second = metres } in
     let blank : List (Link (Pair Crossings Metres)) = replicate 512 (record { from = 0; to = 0; weight = weight }) in
-    let (text, report, put) = c.list-crossings.ensures in
+    let (text, report, put) = c.list_crossings.ensures in
     let fits = subst (λ (r : Result (Network (Pair Crossings Metres)) Refusal). Fitting 80 6 (λ (w : Pair Crossings Metres). be16 w.first.0 ++ be32 w.second.0) (pairs numbers numbers) (λ (w : Pair Crossings Metres). (w.first.0, w.second.0)) crossings_text sheet blank c.load.new.links text r) (sym c.in-Ok.is) report in
     (text, loaded_reports 80 6 (λ (w : Pair Crossings Metres). be16 w.first.0 ++ be32 w.second.0) (pairs numbers numbers) (λ (w : Pair Crossings Metres). (w.first.0, w.second.0)) crossings_text sheet blank c.load.new.links c.load.result text refl fits c.load.ensures, put)
 
@@ -32,4 +32,4 @@ returns-in-Err g c =
     let blank : List (Link (Pair Crossings Metres)) = replicate 512 (record { from = 0; to = 0; weight = weight }) in
     let text = line_of (report_of c.in-Err.refusal) ++ (10 ∷ []) in
     let fits = subst (λ (r : Result (Network (Pair Crossings Metres)) Refusal). Fitting 80 6 (λ (w : Pair Crossings Metres). be16 w.first.0 ++ be32 w.second.0) (pairs numbers numbers) (λ (w : Pair Crossings Metres). (w.first.0, w.second.0)) crossings_text sheet blank c.load.new.links text r) (sym c.in-Err.is) refl in
-    (text, loaded_reports 80 6 (λ (w : Pair Crossings Metres). be16 w.first.0 ++ be32 w.second.0) (pairs numbers numbers) (λ (w : Pair Crossings Metres). (w.first.0, w.second.0)) crossings_text sheet blank c.load.new.links c.load.result text refl fits c.load.ensures, c.put-answer.ensures)
+    (text, loaded_reports 80 6 (λ (w : Pair Crossings Metres). be16 w.first.0 ++ be32 w.second.0) (pairs numbers numbers) (λ (w : Pair Crossings Metres). (w.first.0, w.second.0)) crossings_text sheet blank c.load.new.links c.load.result text refl fits c.load.ensures, c.put_answer.ensures)

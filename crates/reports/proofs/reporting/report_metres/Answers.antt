@@ -15,7 +15,7 @@ returns-in-Ok g c =
     let sheet = c.args.sheet.now in
     let weight : Metres = record { 0 = 0 } in
     let blank : List (Link Metres) = replicate 512 (record { from = 0; to = 0; weight = weight }) in
-    let (text, report, put) = c.list-metres.ensures in
+    let (text, report, put) = c.list_metres.ensures in
     let fits = subst (λ (r : Result (Network Metres) Refusal). Fitting 87 4 (λ (w : Metres). be32 w.0) numbers (λ (w : Metres). w.0) metres_text sheet blank c.load.new.links text r) (sym c.in-Ok.is) report in
     (text, loaded_reports 87 4 (λ (w : Metres). be32 w.0) numbers (λ (w : Metres). w.0) metres_text sheet blank c.load.new.links c.load.result text refl fits c.load.ensures, put)
 
@@ -26,4 +26,4 @@ returns-in-Err g c =
     let blank : List (Link Metres) = replicate 512 (record { from = 0; to = 0; weight = weight }) in
     let text = line_of (report_of c.in-Err.refusal) ++ (10 ∷ []) in
     let fits = subst (λ (r : Result (Network Metres) Refusal). Fitting 87 4 (λ (w : Metres). be32 w.0) numbers (λ (w : Metres). w.0) metres_text sheet blank c.load.new.links text r) (sym c.in-Err.is) refl in
-    (text, loaded_reports 87 4 (λ (w : Metres). be32 w.0) numbers (λ (w : Metres). w.0) metres_text sheet blank c.load.new.links c.load.result text refl fits c.load.ensures, c.put-answer.ensures)
+    (text, loaded_reports 87 4 (λ (w : Metres). be32 w.0) numbers (λ (w : Metres). w.0) metres_text sheet blank c.load.new.links c.load.result text refl fits c.load.ensures, c.put_answer.ensures)

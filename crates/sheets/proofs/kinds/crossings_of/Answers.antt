@@ -7,4 +7,4 @@ pub returns : goal.returns
 returns c =
     let bytes = c.args.encoded.now in
     let len = c.requires in
-    be16_at bytes 0 (λ k. omega (arith, c.type-inv.encoded k)) c.from-be-bytes.result (omega arith) c.from-be-bytes.ensures ∙ take_all 2 bytes (omega arith)
+    be16_at bytes 0 (λ k. omega (arith, c.type_inv.encoded k)) c.from_be_bytes.result (omega arith) c.from_be_bytes.ensures ∙ take_all 2 bytes (omega arith)

@@ -7,6 +7,6 @@ pub returns : goal.returns
 returns c =
     let bytes = c.args.encoded.now in
     let len = c.requires in
-    ap (λ (front : List ℕ). front ++ be32 c.metres-of.result.0) c.crossings-of.ensures
-    ∙ ap (λ (back : List ℕ). take 2 bytes ++ back) (c.metres-of.ensures ∙ take_all 4 (drop 2 bytes) (omega (arith, length-drop 2 bytes)))
+    ap (λ (front : List ℕ). front ++ be32 c.metres_of.result.0) c.crossings_of.ensures
+    ∙ ap (λ (back : List ℕ). take 2 bytes ++ back) (c.metres_of.ensures ∙ take_all 4 (drop 2 bytes) (omega (arith, length-drop 2 bytes)))
     ∙ take-append-drop 2 bytes

@@ -13,14 +13,14 @@ returns-in-Ok g c =
     let sheet = c.args.sheet.now in
     let after = c.read.new.links in
     let before = c.args.links.now in
-    let r = c.open-first.result in
+    let r = c.open_first.result in
     let opened : Opened k.letter k.width k.bytes sheet before after r = record {
       sites = c.in-Ok.counts.sites;
       links = take n after;
       reads = h.reads;
       fills = sym (take-append-drop n after) ∙ ap (λ back. take n after ++ back) (h.leaves ∙ ap (λ m. drop m before) (sym (length-take-le n after h.fills)));
-      refuses = c.open-first.ensures.refuses;
-      opens = c.open-first.ensures.opens;
+      refuses = c.open_first.ensures.refuses;
+      opens = c.open_first.ensures.opens;
     } in
     subst
     (λ (o : Option Report). MatchOption o (Opened k.letter k.width k.bytes sheet before after r) (λ report. (refusal_of r ≡ Some report) × (after ≡ before)))

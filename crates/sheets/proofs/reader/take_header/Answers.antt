@@ -8,7 +8,7 @@ returns c =
     let sheet = c.args.sheet.now in
     record {
       long = search rules;
-      fields = let a = c.from-be-bytes.ensures in let b = c.from-be-bytes-2.ensures in cc;
+      fields = let a = c.from_be_bytes.ensures in let b = c.from_be_bytes-2.ensures in cc;
       after = take_rest sheet 9;
       start = refl;
     }

@@ -17,18 +17,18 @@ returns g c =
     let records = flat_map (record_of k.bytes) links in
     let wide : length records ≡ length links * (2 + k.width) =
     length_joined (record_of k.bytes) (2 + k.width) links (λ link. (let w = g.met.K.SheetKind.wide link.weight in omega arith)) in
-    let same : length links * (2 + c.weight-width.result) ≡ length links * (2 + k.width) = ap (λ n. length links * (2 + n)) c.weight-width.ensures in
+    let same : length links * (2 + c.weight_width.result) ≡ length links * (2 + k.width) = ap (λ n. length links * (2 + n)) c.weight_width.ensures in
     let header = be32 (5 + length links * (2 + k.width)) ++ (1 ∷ k.letter ∷ sites ∷ be16 (length links)) in
-    let size = 9 + length links * (2 + c.weight-width.result) in
+    let size = 9 + length links * (2 + c.weight_width.result) in
     record {
       refuses = sym
           (cond-false _ _ _ (not_from_true _ (and_from (leb 1 sites) (leb sites 64) (le-leb 1 sites c.if-sites-lt1.false) (le-leb sites 64 c.if-sites-gt64.false)))
           ∙ cond-false _ _ _ (le-ltb 512 (length links) c.if-count-gt512.false)
           ∙ cond-false _ _ _ (le-ltb (length sheet) (9 + length links * (2 + k.width)) (let h = c.if-sheet-size.false in omega arith)));
       len = omega arith;
-      writes = front_and_middle sheet c.put-header.new.places c.put-records.new.places (size - 9) (ap length c.put-header.ensures)
-          ∙ ap (λ xs. (xs ++ c.put-records.new.places) ++ drop (9 + (size - 9)) sheet) c.put-header.ensures
-          ∙ ap (λ xs. (header ++ xs) ++ drop (9 + (size - 9)) sheet) c.put-records.ensures
+      writes = front_and_middle sheet c.put_header.new.places c.put_records.new.places (size - 9) (ap length c.put_header.ensures)
+          ∙ ap (λ xs. (xs ++ c.put_records.new.places) ++ drop (9 + (size - 9)) sheet) c.put_header.ensures
+          ∙ ap (λ xs. (header ++ xs) ++ drop (9 + (size - 9)) sheet) c.put_records.ensures
           ∙ ap (λ n. (header ++ records) ++ drop n sheet) (omega arith);
       keeps = tt;
       accepted = λ room fits. sheet_accepted k.letter k.width k.bytes sites links room wide c.if-sites-lt1.false c.if-sites-gt64.false c.if-count-gt512.false fits;

@@ -22,7 +22,7 @@ returns-in-Next g c =
           asked_as L (row_size walk.network) (SitesJoined (network_graph walk.network)) (ρ.rule r) (place_of walk) (ρ.held r) (ap asked_by c.in-Next.is ∙ ap (λ (xs : List ℕ). next xs) (sym same))
           (left_as L (row_size walk.network) (SitesJoined (network_graph walk.network)) (ρ.rule r) (place_of walk) (ρ.held r)
           (ap (λ (xs : List ℕ). next xs) (take_front n.new.list _ c.in-Next.list.len (n.auto.list ∙ c.deref-mut.ensures.len)))
-          (heard_alike L (row_size walk.network) (SitesJoined (network_graph walk.network)) (ρ.rule r) (place_of walk) (ρ.held r) c.answer-of.ensures
+          (heard_alike L (row_size walk.network) (SitesJoined (network_graph walk.network)) (ρ.rule r) (place_of walk) (ρ.held r) c.answer_of.ensures
           (next_event L (row_size walk.network) (SitesJoined (network_graph walk.network)) (ρ.rule r) (place_of walk) (ρ.held r) list n.new.list (refusal_of n.result) (place_of n.new.self)
           (n.ensures.acts b L full))));
       stays = n.ensures.stays;
@@ -59,7 +59,7 @@ returns-in-Seek g c =
       performs = λ b L full.
           asked_as L (row_size walk.network) (SitesJoined (network_graph walk.network)) (ρ.rule r) (place_of walk) (ρ.held r) (ap asked_by c.in-Seek.is ∙ ap (λ (xs : List ℕ). seek xs) (sym same))
           (left_as L (row_size walk.network) (SitesJoined (network_graph walk.network)) (ρ.rule r) (place_of walk) (ρ.held r) (ap (λ (xs : List ℕ). seek xs) (sym same))
-          (heard_alike L (row_size walk.network) (SitesJoined (network_graph walk.network)) (ρ.rule r) (place_of walk) (ρ.held r) c.answer-of-in-Seek.ensures
+          (heard_alike L (row_size walk.network) (SitesJoined (network_graph walk.network)) (ρ.rule r) (place_of walk) (ρ.held r) c.answer_of-in-Seek.ensures
           (seek_event L (row_size walk.network) (SitesJoined (network_graph walk.network)) (ρ.rule r) (place_of walk) (ρ.held r) c.deref.result.now (refusal_of s.result) (place_of s.new.self)
           (s.ensures.acts b L full))));
       stays = s.ensures.stays;

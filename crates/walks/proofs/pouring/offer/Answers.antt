@@ -48,8 +48,8 @@ returns-then-take g c =
       lender = t.lender;
     }
 
-pub go-back-requires : goal.go-back-requires
-go-back-requires g c =
+pub go_back-requires : goal.go_back-requires
+go_back-requires g c =
     let rows = c.args.rows.now in
     let kept = c.kept-kept.ensures in
     let e = c.if-not-advance.ensures in
@@ -58,8 +58,8 @@ go-back-requires g c =
 pub returns : goal.returns
 returns g c =
     let rows = c.args.rows.now in
-    let after = c.go-back.new.rows in
-    let back = c.go-back.ensures in
+    let after = c.go_back.new.rows in
+    let back = c.go_back.ensures in
     let t = c.if-take.ensures in
     let e = c.if-not-advance.ensures in
     let steps = e.moves refl in

@@ -20,7 +20,7 @@ loop-count-preserved g c =
     let next = c.offer.new.receiver in (
       omega (arith, c.loop-count-test.true),
       taken_more c.args.rows.now c.loop-count.rows c.offer.new.rows (k.rule r) (k.rule now) (k.held r) (k.held now) (k.held next)
-          c.loop-count.count c.offer.result i.1 i.2 o.does c.in-default.is o.plan,
+          c.loop-count.count c.offer.result i.1 i.2 o.does c.in_default.is o.plan,
       o.rule ∙ i.2,
       end_end (k.spare r) (k.spare now) (k.spare next) i.3 o.spare,
       o.lender ∙ i.4,

@@ -5,8 +5,8 @@ use Rattle.cheapest.proofs.Standings.{placed_none}
 use Rattle.cheapest.proofs.Stances.{first_owed}
 use Rattle.cheapest.proofs.enumeration.Rows.before.Goals as goal
 
-pub first-row-size-requires : goal.first-row-size-requires
-first-row-size-requires c =
+pub first_row-size-requires : goal.first_row-size-requires
+first_row-size-requires c =
     let list = c.args.list in
     let walk = c.empty-walk.result in
     record {
@@ -15,9 +15,9 @@ first-row-size-requires c =
       short = picks_short list.start list.end list.count (ends_fit list);
     }
 
-pub invariant-of-result : goal.invariant-of-result
-invariant-of-result c =
-    let classes = c.read-classes.ensures in
-    let links = c.read-links.ensures in
-    first_owed c.args.list c.first-row-size.ensures c.first-row-size.new.walk.wide c.read-classes.new.out c.read-links.new.out
+pub invariant_of-result : goal.invariant_of-result
+invariant_of-result c =
+    let classes = c.read_classes.ensures in
+    let links = c.read_links.ensures in
+    first_owed c.args.list c.first_row-size.ensures c.first_row-size.new.walk.wide c.read_classes.new.out c.read_links.new.out
     classes.len links.len classes.writes (λ j l. links.writes j (omega arith, l))

@@ -4,10 +4,10 @@ use Rattle.cheapest.proofs.Standings.{again_standing, other_standing, same_front
 use Rattle.cheapest.proofs.Stances.{standing, owed, refused, listed_passes, passing_listed}
 use Rattle.cheapest.proofs.enumeration.Rows.move_to.Goals as goal
 
-pub invariant-of-self : goal.invariant-of-self
-invariant-of-self c =
+pub invariant_of-self : goal.invariant_of-self
+invariant_of-self c =
     let rows = c.args.self.now in
-    owed (again_standing (standing rows) (take rows.size rows.row) refl c.return-to.ensures c.return-to.new.walk.wide) rows.begins rows.joins
+    owed (again_standing (standing rows) (take rows.size rows.row) refl c.return_to.ensures c.return_to.new.walk.wide) rows.begins rows.joins
 
 pub returns-then-not-place : goal.returns-then-not-place
 returns-then-not-place c =
@@ -20,15 +20,15 @@ returns-then-not-place c =
       stays = λ _. record { on = refl; row = refl };
     }
 
-pub invariant-of-self-2 : goal.invariant-of-self-2
-invariant-of-self-2 c =
+pub invariant_of-self-2 : goal.invariant_of-self-2
+invariant_of-self-2 c =
     let rows = c.args.self.now in
     let row = c.args.row.now in
     let found = c.if-not-place.ensures in
     let size = c.requires.size in
-    let e = c.read-links.ensures in
-    owed (other_standing (standing rows) row c.read-links.new.out found size (λ j l. c.requires.marks j (omega (arith, size)))
-    c.place.new.walk.wide e.len (read_again rows.list row c.read-links.new.out rows.size found size e.writes))
+    let e = c.read_links.ensures in
+    owed (other_standing (standing rows) row c.read_links.new.out found size (λ j l. c.requires.marks j (omega (arith, size)))
+    c.place.new.walk.wide e.len (read_again rows.list row c.read_links.new.out rows.size found size e.writes))
     (λ j h. absurd (true≢false h.0)) (λ _. c.requires.joined)
 
 pub returns : goal.returns

@@ -5,8 +5,8 @@ use Rattle.cheapest.proofs.Standings.{placed_none}
 use Rattle.cheapest.proofs.Stances.{first_owed}
 use Rattle.cheapest.proofs.enumeration.Rows.rewind.Goals as goal
 
-pub first-row-self-requires : goal.first-row-self-requires
-first-row-self-requires c =
+pub first_row-self-requires : goal.first_row-self-requires
+first_row-self-requires c =
     let rows = c.args.self.now in
     let list = rows.list in
     record {
@@ -15,9 +15,9 @@ first-row-self-requires c =
       short = picks_short list.start list.end list.count (ends_fit list);
     }
 
-pub invariant-of-self : goal.invariant-of-self
-invariant-of-self c =
-    let classes = c.read-classes.ensures in
-    let links = c.read-links.ensures in
-    first_owed c.args.self.now.list c.first-row-self.ensures c.first-row-self.new.walk.wide c.read-classes.new.out c.read-links.new.out
+pub invariant_of-self : goal.invariant_of-self
+invariant_of-self c =
+    let classes = c.read_classes.ensures in
+    let links = c.read_links.ensures in
+    first_owed c.args.self.now.list c.first_row-self.ensures c.first_row-self.new.walk.wide c.read_classes.new.out c.read_links.new.out
     classes.len links.len classes.writes (λ j l. links.writes j (omega arith, l))

@@ -5,15 +5,15 @@ use Rattle.cheapest.proofs.enumeration.Rows.stand_in.Goals as goal
 pub returns-then-q-self : goal.returns-then-q-self
 returns-then-q-self c = λ f m s. not_in c.args.self.now c.args.link c.requires (c.place_of-q.ensures.none c.if-q-self.true) m
 
-pub first-across-c-requires : goal.first-across-c-requires
-first-across-c-requires c =
+pub first_across-c-requires : goal.first_across-c-requires
+first_across-c-requires c =
     let rows = c.args.self.now in
     let small = rows.small in
-    let out = c.leave-out-rest.ensures in
+    let out = c.leave_out-rest.ensures in
     record {
       few = omega arith;
-      fronts = rest_fronts rows c.requires c.place-of-q.result c.if-q-self.false c.leave-out-rest.result out.len out.before out.after
-          c.return-to.new.walk.wide c.return-to.ensures;
+      fronts = rest_fronts rows c.requires c.place_of-q.result c.if-q-self.false c.leave_out-rest.result out.len out.before out.after
+          c.return_to.new.walk.wide c.return_to.ensures;
     }
 
 pub returns-then-c-self : goal.returns-then-c-self
@@ -23,7 +23,7 @@ returns-then-c-self c =
     let q = c.place_of-q.result in
     λ f m s. none_stands rows c.requires q c.if-q-self.false c.leave_out-rest.result out.len out.before out.after
     c.return_to.new.walk.wide c.return_to.ensures c.args.link (c.place_of-q.ensures.found c.if-q-self.false)
-    c.first-across-c.result c.first-across-c.ensures.none c.if-c-self.true f s
+    c.first_across-c.result c.first_across-c.ensures.none c.if-c-self.true f s
 
 pub returns : goal.returns
 returns c =
@@ -32,4 +32,4 @@ returns c =
     let q = c.place_of-q.result in
     first_stands rows c.requires q c.if-q-self.false c.leave_out-rest.result out.len out.before out.after
     c.return_to.new.walk.wide c.return_to.ensures c.args.link (c.place_of-q.ensures.found c.if-q-self.false)
-    c.first-across-c.result c.first-across-c.ensures.none c.if-c-self.false (c.first-across-c.ensures.found c.if-c-self.false)
+    c.first_across-c.result c.first_across-c.ensures.none c.if-c-self.false (c.first_across-c.ensures.found c.if-c-self.false)

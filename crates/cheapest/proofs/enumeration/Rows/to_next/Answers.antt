@@ -9,10 +9,10 @@ follow-reach-requires c =
     let rows = c.args.self.now in
     record { few = rows.small; placed = row_placed (standing rows) (take rows.size rows.wanted) refl }
 
-pub invariant-of-self : goal.invariant-of-self
-invariant-of-self c =
+pub invariant_of-self : goal.invariant_of-self
+invariant_of-self c =
     let rows = c.args.self.now in
-    owed (again_standing (standing rows) (take rows.size rows.row) refl c.return-to.ensures c.return-to.new.walk.wide) rows.begins rows.joins
+    owed (again_standing (standing rows) (take rows.size rows.row) refl c.return_to.ensures c.return_to.new.walk.wide) rows.begins rows.joins
 
 pub returns-then-reach-eq0 : goal.returns-then-reach-eq0
 returns-then-reach-eq0 c =
@@ -25,8 +25,8 @@ returns-then-reach-eq0 c =
       stays = λ _. record { on = refl; row = refl };
     }
 
-pub read-links-requires : goal.read-links-requires
-read-links-requires c =
+pub read_links-requires : goal.read_links-requires
+read_links-requires c =
     let rows = c.args.self.now in
     let some = c.if-reach-eq0.false in
     let small = rows.small in
@@ -35,13 +35,13 @@ read-links-requires c =
       inside = found_inside (standing rows) (take rows.size rows.wanted) refl c.follow-reach.ensures (c.follow-reach.result - 1) (omega arith) c.follow-reach.new.walk.wide;
     }
 
-pub invariant-of-self-2 : goal.invariant-of-self-2
-invariant-of-self-2 c =
+pub invariant_of-self-2 : goal.invariant_of-self-2
+invariant_of-self-2 c =
     let rows = c.args.self.now in
     let some = c.if-reach-eq0.false in
-    let e = c.read-links.ensures in
+    let e = c.read_links.ensures in
     owed (next_standing (standing rows) (take rows.size rows.wanted) refl c.follow-reach.ensures (c.follow-reach.result - 1) (omega arith) c.follow-reach.new.walk.wide
-    c.read-links.new.out e.len e.keeps e.writes (rows.joins c.requires))
+    c.read_links.new.out e.len e.keeps e.writes (rows.joins c.requires))
     (λ j h. absurd (both_ways rows.on h.0 c.requires)) rows.joins
 
 pub returns : goal.returns

@@ -10,10 +10,10 @@ returns-then-size-self c = (
   (λ _. refl),
 )
 
-pub returns-then-other-size-size : goal.returns-then-other-size-size
-returns-then-other-size-size c = (
+pub returns-then-other_size-size : goal.returns-then-other_size-size
+returns-then-other_size-size c = (
   (λ _. every_short c.args.self.now c.args.link c.without.result c.without.ensures.graph c.without.ensures.marks
-      (λ e. c.if-other-size-size.true (c.first-marks-other-size.ensures.size ∙ e ∙ sym c.first-marks-size.ensures.size))),
+      (λ e. c.if-other_size-size.true (c.first_marks-other_size.ensures.size ∙ e ∙ sym c.first_marks-size.ensures.size))),
   (λ _. refl),
 )
 
@@ -24,14 +24,14 @@ returns c =
     let mine = c.first_marks-size.ensures in
     let others = c.first_marks-other_size.ensures in
     let level = c.if-other_size-size.false in
-    let agree = c.same-marks.result in (
+    let agree = c.same_marks.result in (
       (λ e. every_marks p c.args.link q c.without.ensures.graph c.without.ensures.marks
-          (λ same. both_ways agree (not-true agree e) (c.same-marks.ensures.1
+          (λ same. both_ways agree (not-true agree e) (c.same_marks.ensures.1
           (λ j l. mine.marks j l ∙ same j (omega (arith, mine.size)) ∙ sym (others.marks j (omega (arith, level))))))),
       (λ all. elim (cases_Bool agree) [
         | inl t ↦ absurd (not_every p c.args.link q c.without.ensures.graph c.without.ensures.marks
             (omega (arith, mine.size, c.if-size-self.false)) (omega (arith, mine.size, others.size, level))
-            (λ j l. sym (mine.marks j (omega (arith, mine.size))) ∙ c.same-marks.ensures.0 t j (omega (arith, mine.size))
+            (λ j l. sym (mine.marks j (omega (arith, mine.size))) ∙ c.same_marks.ensures.0 t j (omega (arith, mine.size))
             ∙ others.marks j (omega (arith, mine.size, level))) all)
         | inr f ↦ not_from_false agree f
       ]),

@@ -11,4 +11,4 @@ returns g c =
     let k = g.K.WeightKind in
     let n = c.args.self.now in
     count_asked c.plan.result (network_graph n) c.plan.ensures.graph k.scale g.met.K.WeightKind.lawful
-    (weights_of k.scale k.amount n) c.plan.ensures.alike c.args.class c.count-in.result c.count-in.ensures
+    (weights_of k.scale k.amount n) c.plan.ensures.alike c.args.class c.count_in.result c.count_in.ensures

@@ -8,8 +8,8 @@ use Rattle.networks.specs.Trials.{without, FirstWritten}
 use Rattle.networks.proofs.Asked.{first_asked}
 use Rattle.networks.proofs.networks.Network.try_link.Goals as goal
 
-pub try-closed-requires : goal.try-closed-requires
-try-closed-requires g c =
+pub try_closed-requires : goal.try_closed-requires
+try_closed-requires g c =
     let p = c.plan-plan.result in
     let n = c.args.self.now in
     let same = c.plan-plan.ensures.graph in
@@ -25,15 +25,15 @@ returns g c =
     let k = g.K.WeightKind in
     let n = c.args.self.now in
     let p = c.plan-plan.result in
-    let r = c.try-closed.result in
+    let r = c.try_closed.result in
     let same = c.plan-plan.ensures.graph in
     let list = c.args.list.now in
-    let list' = c.try-closed.new.list in
+    let list' = c.try_closed.new.list in
     record {
-      joined = subst (λ (h : Graph). Decides r (SitesJoined (without h c.args.link))) same c.try-closed.ensures.joined;
+      joined = subst (λ (h : Graph). Decides r (SitesJoined (without h c.args.link))) same c.try_closed.ensures.joined;
       writes = first_asked p (network_graph n) same k.scale g.met.K.WeightKind.lawful (weights_of k.scale k.amount n) c.plan-plan.ensures.alike
-          c.args.link r list list' c.try-closed.ensures.writes;
+          c.args.link r list list' c.try_closed.ensures.writes;
       sites = refl;
       links = refl;
-      closed = c.try-closed.ensures.restores;
+      closed = c.try_closed.ensures.restores;
     }

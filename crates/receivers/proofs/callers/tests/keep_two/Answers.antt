@@ -9,8 +9,8 @@ use Rattle.receivers.proofs.callers.tests.keep_two.Goals as goal
 pub returns : goal.returns
 returns c =
     let new = c.new-keeper.ensures in
-    let two = c.offer-two.ensures in
-    let k = c.offer-two.new.r in
+    let two = c.offer_two.ensures in
+    let k = c.offer_two.new.r in
     let cells = c.args.cells.now in
     let rows : List (List ℕ) = c.args.first.now ∷ c.args.second.now ∷ [] in
     let whole = take-append-drop k.used k.cells.now in

@@ -5,8 +5,8 @@ use Rattle.receivers.specs.Keeping.{kept_row}
 use Rattle.receivers.proofs.Fronts.{used_more, unused_end}
 use Rattle.receivers.proofs.keeper.Keeper.append.Goals as goal
 
-pub write-row-end-requires : goal.write-row-end-requires
-write-row-end-requires c =
+pub write_row-end-requires : goal.write_row-end-requires
+write_row-end-requires c =
     let k = c.args.self.now in
     let n = length c.args.row.now in
     let parts = and_parts (leb n 63) (leb (length (kept k) + (n + 1)) (length k.cells.now)) c.requires in
@@ -18,16 +18,16 @@ returns c =
     let row = kept_row c.args.row.now in
     let n = length c.args.row.now in
     let cells = k.cells.now in
-    let cells' = c.write-row-end.new.cells in
+    let cells' = c.write_row-end.new.cells in
     let start = c.used-start.result in
-    let end = c.write-row-end.result in
+    let end = c.write_row-end.result in
     let from = c.used-start.ensures in
-    let to = c.write-row-end.ensures.end in
+    let to = c.write_row-end.ensures.end in
     let parts = and_parts (leb n 63) (leb (length (kept k) + (n + 1)) (length cells)) c.requires in
     let room : c.used-start.result + (length c.args.row.now + 1) ≤ length k.cells.now = omega (arith, leb-true (length (kept k) + (n + 1)) (length cells) parts.1) in
     record {
-      held = used_more cells cells' row (n + 1) k.used start end from to c.write-row-end.ensures.front;
+      held = used_more cells cells' row (n + 1) k.used start end from to c.write_row-end.ensures.front;
       places = omega arith;
-      spare = unused_end cells cells' row (n + 1) k.used start end from to room c.write-row-end.ensures.rest;
+      spare = unused_end cells cells' row (n + 1) k.used start end from to room c.write_row-end.ensures.rest;
       lender = refl;
     }

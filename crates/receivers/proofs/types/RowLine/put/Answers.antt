@@ -6,10 +6,10 @@ pub returns : goal.returns
 returns c =
     let line = c.args.self.now in
     let part = c.args.part.now in
-    let put = c.copy-from-slice.new.self in
+    let put = c.copy_from_slice.new.self in
     let inside : line.len ≤ length line.places = omega arith in
     record {
-      bytes = take-put_mid line.len _ line.places put (line.len + length part) (ap (λ bytes. line.len + length bytes) (sym c.copy-from-slice.ensures.after)) inside
-          ∙ ap (λ bytes. take line.len line.places ++ bytes) c.copy-from-slice.ensures.after;
+      bytes = take-put_mid line.len _ line.places put (line.len + length part) (ap (λ bytes. line.len + length bytes) (sym c.copy_from_slice.ensures.after)) inside
+          ∙ ap (λ bytes. take line.len line.places ++ bytes) c.copy_from_slice.ensures.after;
       len = omega arith;
     }

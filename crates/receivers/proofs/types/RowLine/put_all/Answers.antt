@@ -10,7 +10,7 @@ loop-n-preserved c =
     let row = c.args.row.now in
     let i = c.loop-n.n-index in
     let rest = spaced (drop (i + 1) row) in (
-      ap (λ xs. xs ++ rest) c.put-spaced.ensures.bytes ∙ append_assoc line (32 ∷ decimal (get_or row i 0)) rest
+      ap (λ xs. xs ++ rest) c.put_spaced.ensures.bytes ∙ append_assoc line (32 ∷ decimal (get_or row i 0)) rest
           ∙ ap (λ xs. line ++ xs) (sym (at_drop_more spaced row i 0 (omega arith))) ∙ c.loop-n.invariant.0,
       omega arith,
     )

@@ -10,8 +10,8 @@ noted-count-requires c =
     let inside : c.args.link < length t.links = omega arith in
     λ old. omega (arith, times_at t.links c.args.link inside, last_at t.links c.args.link inside, c.requires.room (omega (arith, last_at t.links c.args.link inside)))
 
-pub invariant-of-self : goal.invariant-of-self
-invariant-of-self c =
+pub invariant_of-self : goal.invariant_of-self
+invariant_of-self c =
     let t = c.args.self.now in
     let link = c.args.link in
     let old = get_or t.links c.args.link (record { times = 0; last = 0 }) in

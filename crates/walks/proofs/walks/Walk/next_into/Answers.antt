@@ -12,7 +12,7 @@ returns g c =
     let walk = c.args.self.now in
     record {
       acts = λ b L full.
-          subst (λ (h : Graph). NextDoes L (h.sites - 1) (SitesJoined h) (place_in walk.rows) c.args.list.now c.next-row.new.list (refusal_of c.next-row.result) (place_in c.next-row.new.rows))
-          b.graph (c.next-row.ensures.does L (listed_by k.scale g.met.K.WeightKind.lawful k.amount walk b L full));
-      stays = record { network = refl; begun = still_begun k.scale k.amount walk c.next-row.new.rows _ c.next-row.ensures.plan };
+          subst (λ (h : Graph). NextDoes L (h.sites - 1) (SitesJoined h) (place_in walk.rows) c.args.list.now c.next_row.new.list (refusal_of c.next_row.result) (place_in c.next_row.new.rows))
+          b.graph (c.next_row.ensures.does L (listed_by k.scale g.met.K.WeightKind.lawful k.amount walk b L full));
+      stays = record { network = refl; begun = still_begun k.scale k.amount walk c.next_row.new.rows _ c.next_row.ensures.plan };
     }

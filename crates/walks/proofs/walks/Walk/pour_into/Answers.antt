@@ -13,7 +13,7 @@ returns g c =
     let ρ = g.R.Receiver in
     let walk = c.args.self.now in
     let r = c.args.receiver.now in
-    let poured = c.pour-rows-count in
+    let poured = c.pour_rows-count in
     let r' = poured.new.receiver in
     record {
       acts = λ b L full.
