@@ -8,25 +8,4 @@ invariant_of-result c =
     let few = plan.few in
     let e = c.select-count.ensures in
     let number = c.select-count.result.0 in
-    let n = c.select-count.result.1 in (
-      e.few,
-      (
-        selected_all plan number n (omega (arith, e.len, e.few)) e.selects,
-        (
-          selected_at plan number n (omega (arith, e.len, e.few)) e.selects,
-          (
-            c.bytes_of-start.ensures,
-            (
-              c.bytes_of-end.ensures,
-              (
-                c.marks_of-class.ensures,
-                (
-                  (λ k l. omega (arith, c.bytes_of-start.ensures k l, plan.starts _ (e.inside k l))),
-                  ((λ k l. omega (arith, c.bytes_of-end.ensures k l, plan.ends _ (e.inside k l))), tt),
-                ),
-              ),
-            ),
-          ),
-        ),
-      ),
-    )
+    let n = c.select-count.result.1 in record { room = e.few; all = selected_all plan number n (omega (arith, e.len, e.few)) e.selects; numbers = selected_at plan number n (omega (arith, e.len, e.few)) e.selects; starts = c.bytes_of-start.ensures; ends = c.bytes_of-end.ensures; classes = c.marks_of-class.ensures; startfits = (λ k l. omega (arith, c.bytes_of-start.ensures k l, plan.starts _ (e.inside k l))); endfits = (λ k l. omega (arith, c.bytes_of-end.ensures k l, plan.ends _ (e.inside k l))) }
