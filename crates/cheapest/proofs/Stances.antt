@@ -39,20 +39,38 @@ IsJoined list size on = on ≡ true → size + 1 ≡ list.plan.sites
 
 -- the facts that a walk keeps, in the order of its fields
 abbrev pub Owed : Candidates → List ℕ → List (List ℕ) → ℕ → List ℕ → List ℕ → Bool → Type 0
-Owed list at stack size wanted row on =
-    (size < 64) × ((length wanted ≡ 64) × ((length row ≡ 64) × ((size ≡ length (first_of list.plan))
-    × (((j : ℕ) → j < size → get_or wanted j 0 ≡ mark_of list.plan (get_or (first_of list.plan) j 0))
-    × (((j : ℕ) → j < size → get_or at j 0 < list.count)
-    × (((j : ℕ) → j < size → get_or list.class (get_or at j 0) 0 ≡ get_or wanted j 0)
-    × (((j : ℕ) → j < size → get_or list.number (get_or at j 0) 0 ≡ get_or row j 0)
-    × (Fronts list.start list.end at stack size
-    × ((passes list (take size row) ≡ true)
-    × (AtFirst list size row on × (IsJoined list size on × Unit {0})))))))))))
+Owed list at stack size wanted row on = record {
+  small : size < 64;
+  widewanted : length wanted ≡ 64;
+  widerow : length row ≡ 64;
+  whole : size ≡ length (first_of list.plan);
+  wants : (j : ℕ) → j < size → get_or wanted j 0 ≡ mark_of list.plan (get_or (first_of list.plan) j 0);
+  inside : (j : ℕ) → j < size → get_or at j 0 < list.count;
+  levels : (j : ℕ) → j < size → get_or list.class (get_or at j 0) 0 ≡ get_or wanted j 0;
+  shows : (j : ℕ) → j < size → get_or list.number (get_or at j 0) 0 ≡ get_or row j 0;
+  fronts : Fronts list.start list.end at stack size;
+  passes : passes list (take size row) ≡ true;
+  begins : AtFirst list size row on;
+  joins : IsJoined list size on;
+}
 
 pub owed : {list : Candidates} {at : List ℕ} {stack : List (List ℕ)} {size : ℕ} {wanted row : List ℕ} {on : Bool}
     → Standing list at stack size wanted row → AtFirst list size row on → IsJoined list size on → Owed list at stack size wanted row on
 owed s begins joins =
-    (s.small, (s.wide_wanted, (s.wide_row, (s.whole, (s.wants, (s.inside, (s.levels, (s.shows, (s.fronts, (s.passing, (begins, (joins, tt))))))))))))
+    record {
+      small = s.small;
+      widewanted = s.wide_wanted;
+      widerow = s.wide_row;
+      whole = s.whole;
+      wants = s.wants;
+      inside = s.inside;
+      levels = s.levels;
+      shows = s.shows;
+      fronts = s.fronts;
+      passes = s.passing;
+      begins = begins;
+      joins = joins;
+    }
 
 -- a walk that stands before the list, with the first row filled in
 pub first_owed : (list : Candidates) {at : List ℕ} {stack : List (List ℕ)} {size : ℕ} → Filled list.start list.end list.count [] at stack size
