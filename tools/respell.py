@@ -35,7 +35,7 @@ def respelled(name):
 def declared():
     names = {}
     for path in sorted(root.glob("crates/*/*/**/*.antt")):
-        if path.name in ("Answers.antt", "Invariants.antt", "Choices.antt", "Proof.antt", "Lib.antt"):
+        if "proofs" in path.parts and path.name in ("Answers.antt", "Invariants.antt", "Choices.antt", "Proof.antt", "Lib.antt"):
             continue
         for line in path.read_text().split("\n"):
             if line.lstrip().startswith("--"):

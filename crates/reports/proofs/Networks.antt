@@ -11,7 +11,7 @@ use Rattle.networks.specs.declared.networks.Network.{Network}
 use Rattle.walks.specs.Walks.{network_of, place_of, row_at, Listed}
 use Rattle.walks.specs.declared.walks.Walk.{Walk}
 use Rattle.walks.proofs.Alikes.{network_fits}
-use Rattle.reports.specs.Answers.{soundLine}
+use Rattle.reports.specs.Answers.{sound_line}
 use Rattle.reports.specs.Filling.{ListsPrinted}
 use Rattle.reports.specs.Listing.{lines_of, Printed, no_tree, all, first, last_line, Report}
 use Rattle.reports.specs.Reports.{PutsNetwork}
@@ -51,11 +51,11 @@ module _ {K : Type 0} (s : Scale) (laws : Lawful s) (amount : K → s.Amount) (s
         (subst (λ (r : List ℕ). TotalOf s amount shown (links_of (network_of after)) r each) (ap row_at place) (totals.1 some)) priced
         ∙ ap shown (one_total here row c (full.sound row m'))
 
-    pub report_of : PutOut took start (soundLine (sites_of n) (length (links_of n)) ++ (10 ∷ [])) listing → PutOut took listed (last_line count each letter) end → PutsNetwork s amount shown took n start end
+    pub report_of : PutOut took start (sound_line (sites_of n) (length (links_of n)) ++ (10 ∷ [])) listing → PutOut took listed (last_line count each letter) end → PutsNetwork s amount shown took n start end
     report_of begins ends =
         let list = one_list s laws (network_graph n) (network_fits n) w in
         let (rows, long, put, printed, on) = lists list.0 list.1 in
-        let text : List ℕ = (soundLine (sites_of n) (length (links_of n)) ++ (10 ∷ [])) ++ (lines_of rows ++ last_line (length rows) each letter) in (
+        let text : List ℕ = (sound_line (sites_of n) (length (links_of n)) ++ (10 ∷ [])) ++ (lines_of rows ++ last_line (length rows) each letter) in (
           text,
           record {
             full = list.0;

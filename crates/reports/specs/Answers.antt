@@ -40,29 +40,29 @@ AnswersKind letter width bytes sheet a =
     MatchOption (first_of (read_rules letter width sheet 512)) (Opens letter width bytes sheet a) (RefusedWith a)
 
 -- the bytes of the two kinds' weights
-abbrev pub metresBytes : Metres → List ℕ
-metresBytes w = be32 w.0
+abbrev pub metres_bytes : Metres → List ℕ
+metres_bytes w = be32 w.0
 
-abbrev pub crossingsBytes : Pair Crossings Metres → List ℕ
-crossingsBytes w = be16 w.first.0 ++ be32 w.second.0
+abbrev pub crossings_bytes : Pair Crossings Metres → List ℕ
+crossings_bytes w = be16 w.first.0 ++ be32 w.second.0
 
 -- the answer to a sheet, read as the kind that its byte 5 says
 abbrev pub AnswersAs : Kind → List ℕ → Answer → Type 0
-AnswersAs metres sheet a = AnswersKind 87 4 metresBytes sheet a
-AnswersAs crossings sheet a = AnswersKind 80 6 crossingsBytes sheet a
+AnswersAs metres sheet a = AnswersKind 87 4 metres_bytes sheet a
+AnswersAs crossings sheet a = AnswersKind 80 6 crossings_bytes sheet a
 
 abbrev pub Answers : List ℕ → Answer → Type 0
 Answers sheet a = AnswersAs (kind_of sheet) sheet a
 
 -- the answer that loading leads to
-abbrev pub toldOf : {K : Type 0} → Result (Network K) Refusal → Answer
-toldOf (Ok n) = Sound (sites_of n) (length (links_of n))
-toldOf (Err e) = Refused e
+abbrev pub told_of : {K : Type 0} → Result (Network K) Refusal → Answer
+told_of (Ok n) = Sound (sites_of n) (length (links_of n))
+told_of (Err e) = Refused e
 
 -- the printed line, as `sites 4 links 5`
-abbrev pub soundLine : ℕ → ℕ → List ℕ
-soundLine sites links = codes "sites " ++ (decimal sites ++ (codes " links " ++ decimal links))
+abbrev pub sound_line : ℕ → ℕ → List ℕ
+sound_line sites links = codes "sites " ++ (decimal sites ++ (codes " links " ++ decimal links))
 
-abbrev pub lineOfAnswer : Answer → List ℕ
-lineOfAnswer (Sound sites links) = soundLine sites links
-lineOfAnswer (Refused e) = line_of (report_of e)
+abbrev pub line_of_answer : Answer → List ℕ
+line_of_answer (Sound sites links) = sound_line sites links
+line_of_answer (Refused e) = line_of (report_of e)

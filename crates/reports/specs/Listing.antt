@@ -8,7 +8,7 @@ use Rattle.networks.specs.declared.networks.Network.{Network}
 use Rattle.receivers.specs.Writing.{line_of}
 use Rattle.walks.specs.Answering.{letter_l, letter_z, letter_x}
 use Rattle.walks.specs.Walks.{Listed}
-use Rattle.reports.specs.Answers.{soundLine}
+use Rattle.reports.specs.Answers.{sound_line}
 
 -- the text writer's lines, one behind the other
 abbrev pub lines_of : List (List ℕ) → List ℕ
@@ -46,4 +46,4 @@ pub record Report {K : Type 0} (s : Scale) (amount : K → s.Amount) (shown : s.
   pub each : List ℕ
   pub dash : rows ≡ [] → each ≡ codes "-"
   pub total : (row : List ℕ) → In row rows → each ≡ shown (sum_of s (map (weights_of s amount n) row))
-  pub whole : text ≡ (soundLine (sites_of n) (length (links_of n)) ++ (10 ∷ [])) ++ (lines_of rows ++ last_line (length rows) each letter)
+  pub whole : text ≡ (sound_line (sites_of n) (length (links_of n)) ++ (10 ∷ [])) ++ (lines_of rows ++ last_line (length rows) each letter)

@@ -3,7 +3,7 @@
 ghost use Rattle.std.specs.Prelude.{◌≡◌, ℕ, slice_index};
 ghost use Rattle.networks.specs.Refusals.{line_of};
 ghost use Rattle.texts.specs.Lines.{line_bytes};
-ghost use Rattle.reports.specs.Answers.{kind_of, Answers, AnswersAs, lineOfAnswer, soundLine, toldOf};
+ghost use Rattle.reports.specs.Answers.{kind_of, Answers, AnswersAs, line_of_answer, sound_line, told_of};
 ghost use Rattle.reports.specs.declared.answers.Kind.TheVariants.{Metres as metres, CrossingsMetres as crossings};
 
 use crate::answers::{Answer, Kind};
@@ -69,7 +69,7 @@ fn answer_crossings(sheet: &[u8]) -> Answer
 
 /// What is answered where loading gave this.
 fn told<K: SheetKind>(loaded: Result<Network<K>, Refusal>) -> Answer
-    ensures { result ≡ toldOf loaded }
+    ensures { result ≡ told_of loaded }
 {
     match loaded {
         Ok(network) => Answer::Sound {
@@ -83,7 +83,7 @@ fn told<K: SheetKind>(loaded: Result<Network<K>, Refusal>) -> Answer
 impl Answer {
     /// The line that is printed of the answer, without its end.
     pub fn line(&self) -> Line
-        ensures { line_bytes result ≡ lineOfAnswer self.now }
+        ensures { line_bytes result ≡ line_of_answer self.now }
     {
         match *self {
             Answer::Sound { sites, links } => sound_line(sites, links),
@@ -93,7 +93,7 @@ impl Answer {
 }
 
 fn sound_line(sites: u8, links: usize) -> Line
-    ensures { line_bytes result ≡ soundLine sites links }
+    ensures { line_bytes result ≡ sound_line sites links }
 {
     let mut line = Line::new();
     line.put(b"sites ");

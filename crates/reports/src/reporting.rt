@@ -3,7 +3,7 @@
 ghost use Rattle.std.specs.Prelude.{◌≡◌, ℕ, ◌<◌, List, [], ◌∷◌, ◌++◌, length};
 ghost use Rattle.weights.specs.Amounts.{numbers, pairs};
 ghost use Rattle.networks.specs.Networks.{sites_of, links_of};
-ghost use Rattle.reports.specs.Answers.{kind_of, lineOfAnswer};
+ghost use Rattle.reports.specs.Answers.{kind_of, line_of_answer};
 ghost use Rattle.reports.specs.Listing.{last_line, metres_text, crossings_text};
 ghost use Rattle.reports.specs.Reports.{PutsReport, PutsNetwork};
 ghost use Rattle.reports.specs.Sinks.{PutOut};
@@ -100,7 +100,7 @@ fn sound<K: WeightKind>(network: &Network<K>) -> Answer
 
 /// Puts the first line out.
 fn put_answer<S: Sink>(out: &mut S, answer: Answer)
-    ensures { PutOut took out.old (lineOfAnswer answer ++ (10 ∷ [])) out.new }
+    ensures { PutOut took out.old (line_of_answer answer ++ (10 ∷ [])) out.new }
 {
     let line = answer.line();
     out.put(line.as_slice());

@@ -3,7 +3,7 @@ use Rattle.networks.specs.declared.links.Link.{Link}
 use Rattle.weights.specs.declared.crossings.Crossings.{Crossings}
 use Rattle.weights.specs.declared.metres.Metres.{Metres}
 use Rattle.weights.specs.declared.pairs.Pair.{Pair}
-use Rattle.reports.specs.Answers.{AnswersKind, crossingsBytes}
+use Rattle.reports.specs.Answers.{AnswersKind, crossings_bytes}
 use Rattle.reports.specs.declared.answers.Answer.{Answer}
 use Rattle.reports.proofs.Answering.{told_answers}
 use Rattle.reports.proofs.lines.answer_crossings.Goals as goal
@@ -15,5 +15,5 @@ returns c =
     let metres : Metres = record { 0 = 0 } in
     let weight : Pair Crossings Metres = record { first = crossings; second = metres } in
     let blank : List (Link (Pair Crossings Metres)) = replicate 512 (record { from = 0; to = 0; weight = weight }) in
-    subst (λ (a : Answer). AnswersKind 80 6 crossingsBytes sheet a) (sym c.told.ensures)
-    (told_answers 80 6 crossingsBytes sheet blank c.load.new.links c.load.result refl c.load.ensures)
+    subst (λ (a : Answer). AnswersKind 80 6 crossings_bytes sheet a) (sym c.told.ensures)
+    (told_answers 80 6 crossings_bytes sheet blank c.load.new.links c.load.result refl c.load.ensures)

@@ -7,7 +7,7 @@ use Rattle.weights.specs.PairLaws.{pairs_lawful}
 use Rattle.cheapest.proofs.Numbers.{numbers_lawful}
 use Rattle.networks.specs.Networks.{sites_of, links_of}
 use Rattle.networks.specs.declared.networks.Network.{Network}
-use Rattle.reports.specs.Answers.{lineOfAnswer, soundLine}
+use Rattle.reports.specs.Answers.{line_of_answer, sound_line}
 use Rattle.reports.specs.Listing.{crossings_text}
 use Rattle.reports.specs.Reports.{PutsNetwork}
 use Rattle.reports.specs.Sinks.{PutOut}
@@ -25,8 +25,8 @@ returns g c =
     let listed = c.list-count in
     let each = c.crossings_each-total in
     let same = c.begin-walk.ensures.network in
-    let first = subst (λ (a : Answer). PutOut took o (lineOfAnswer a ++ (10 ∷ [])) o1) c.sound.ensures c.put_answer.ensures in
-    let begins = subst (λ (n : Network (Pair Crossings Metres)). PutOut took o (soundLine (sites_of n) (length (links_of n)) ++ (10 ∷ [])) o1) (sym same) first in
+    let first = subst (λ (a : Answer). PutOut took o (line_of_answer a ++ (10 ∷ [])) o1) c.sound.ensures c.put_answer.ensures in
+    let begins = subst (λ (n : Network (Pair Crossings Metres)). PutOut took o (sound_line (sites_of n) (length (links_of n)) ++ (10 ∷ [])) o1) (sym same) first in
     subst (λ (n : Network (Pair Crossings Metres)). PutsNetwork (pairs numbers numbers) (λ (w : Pair Crossings Metres). (w.first.0, w.second.0)) crossings_text took n o o3) same
     (report_of (pairs numbers numbers) (pairs_lawful numbers numbers numbers_lawful numbers_lawful) (λ (w : Pair Crossings Metres). (w.first.0, w.second.0)) crossings_text c.begin-walk.result listed.new.walk took o o1 listed.new.out o3 listed.result.0 listed.result.1 (total_text each.result)
     listed.ensures.network listed.ensures.lists each.ensures begins c.put_last.ensures)

@@ -4,7 +4,7 @@ use Rattle.weights.specs.declared.metres.Metres.{Metres}
 use Rattle.cheapest.proofs.Numbers.{numbers_lawful}
 use Rattle.networks.specs.Networks.{sites_of, links_of}
 use Rattle.networks.specs.declared.networks.Network.{Network}
-use Rattle.reports.specs.Answers.{lineOfAnswer, soundLine}
+use Rattle.reports.specs.Answers.{line_of_answer, sound_line}
 use Rattle.reports.specs.Listing.{metres_text}
 use Rattle.reports.specs.Reports.{PutsNetwork}
 use Rattle.reports.specs.Sinks.{PutOut}
@@ -22,8 +22,8 @@ returns g c =
     let listed = c.list-count in
     let each = c.metres_each-total in
     let same = c.begin-walk.ensures.network in
-    let first = subst (λ (a : Answer). PutOut took o (lineOfAnswer a ++ (10 ∷ [])) o1) c.sound.ensures c.put_answer.ensures in
-    let begins = subst (λ (n : Network Metres). PutOut took o (soundLine (sites_of n) (length (links_of n)) ++ (10 ∷ [])) o1) (sym same) first in
+    let first = subst (λ (a : Answer). PutOut took o (line_of_answer a ++ (10 ∷ [])) o1) c.sound.ensures c.put_answer.ensures in
+    let begins = subst (λ (n : Network Metres). PutOut took o (sound_line (sites_of n) (length (links_of n)) ++ (10 ∷ [])) o1) (sym same) first in
     subst (λ (n : Network Metres). PutsNetwork numbers (λ (w : Metres). w.0) metres_text took n o o3) same
     (report_of numbers numbers_lawful (λ (w : Metres). w.0) metres_text c.begin-walk.result listed.new.walk took o o1 listed.new.out o3 listed.result.0 listed.result.1 (total_text each.result)
     listed.ensures.network listed.ensures.lists each.ensures begins c.put_last.ensures)
