@@ -14,9 +14,9 @@ use weights::WeightKind;
 /// in any order, repeats too.
 pub fn price<K: WeightKind>(links: &[Link<K>], row: &[u16]) -> Result<K::Total, Refusal>
     ensures refuses { refusal_of result ≡ first_of (price_rules (length links.now) 0 row.now) }
-    ensures sums { IfOk result (λ t. sum t ≡ sum_of scale (map (weight_of scale amount links.now) row.now)) }
-    ensures counts { IfOk result (λ t. held t ≡ length row.now) }
-    ensures level { IfOk result (λ t. level t) }
+    ensures sums { IfOk result (λ t. K.WeightKind.sum t ≡ sum_of K.WeightKind.scale (map (weight_of K.WeightKind.scale K.WeightKind.amount links.now) row.now)) }
+    ensures counts { IfOk result (λ t. K.WeightKind.held t ≡ length row.now) }
+    ensures level { IfOk result (λ t. K.WeightKind.level t) }
 {
     match check_row(links.len(), row) {
         Ok(()) => Ok(sum_row(links, row)),
@@ -41,9 +41,9 @@ fn check_row(records: usize, row: &[u16]) -> Result<(), Refusal>
 /// The total of the weights of a row that has a price.
 fn sum_row<K: WeightKind>(links: &[Link<K>], row: &[u16]) -> K::Total
     requires { (k : ℕ) → k < length row.now → Priced (length links.now) row.now k }
-    ensures sums { sum result ≡ sum_of scale (map (weight_of scale amount links.now) row.now) }
-    ensures counts { held result ≡ length row.now }
-    ensures level { level result }
+    ensures sums { K.WeightKind.sum result ≡ sum_of K.WeightKind.scale (map (weight_of K.WeightKind.scale K.WeightKind.amount links.now) row.now) }
+    ensures counts { K.WeightKind.held result ≡ length row.now }
+    ensures level { K.WeightKind.level result }
 {
     let mut total = K::nothing();
     for entry in row {

@@ -25,7 +25,7 @@ use weights::{Crossings, Metres, Pair, WeightKind};
 /// Puts the report of a sheet out, read as the kind that it names: its sites and links, a line for each of up to 1,000
 /// cheapest trees, and how many they are, the total of each and how the list ended; or a line that says why it is refused.
 pub fn report<S: Sink>(sheet: &[u8], out: &mut S)
-    ensures { PutsReport took (kind_of sheet.now) sheet.now out.old out.new }
+    ensures { PutsReport S.Sink.took (kind_of sheet.now) sheet.now out.old out.new }
 {
     match kind_of(sheet) {
         Kind::Metres => report_metres(sheet, out),
@@ -34,7 +34,7 @@ pub fn report<S: Sink>(sheet: &[u8], out: &mut S)
 }
 
 fn report_metres<S: Sink>(sheet: &[u8], out: &mut S)
-    ensures { PutsReport took metres sheet.now out.old out.new }
+    ensures { PutsReport S.Sink.took metres sheet.now out.old out.new }
 {
     let blank = Link {
         from: 0,
@@ -49,7 +49,7 @@ fn report_metres<S: Sink>(sheet: &[u8], out: &mut S)
 }
 
 fn report_crossings<S: Sink>(sheet: &[u8], out: &mut S)
-    ensures { PutsReport took crossings sheet.now out.old out.new }
+    ensures { PutsReport S.Sink.took crossings sheet.now out.old out.new }
 {
     let blank = Link {
         from: 0,
@@ -68,7 +68,7 @@ fn report_crossings<S: Sink>(sheet: &[u8], out: &mut S)
 
 /// Puts the report of a network with metres out.
 fn list_metres<S: Sink>(network: Network<Metres>, out: &mut S)
-    ensures { PutsNetwork numbers (λ w. w.0) metres_text took network out.old out.new }
+    ensures { PutsNetwork numbers (λ w. w.0) metres_text S.Sink.took network out.old out.new }
 {
     put_answer(out, sound(&network));
     let mut walk = Walk::begin(network);
@@ -79,7 +79,7 @@ fn list_metres<S: Sink>(network: Network<Metres>, out: &mut S)
 
 /// Puts the report of a network with crossings and metres out.
 fn list_crossings<S: Sink>(network: Network<Pair<Crossings, Metres>>, out: &mut S)
-    ensures { PutsNetwork (pairs numbers numbers) (λ w. (w.first.0, w.second.0)) crossings_text took network out.old out.new }
+    ensures { PutsNetwork (pairs numbers numbers) (λ w. (w.first.0, w.second.0)) crossings_text S.Sink.took network out.old out.new }
 {
     put_answer(out, sound(&network));
     let mut walk = Walk::begin(network);
@@ -100,7 +100,7 @@ fn sound<K: WeightKind>(network: &Network<K>) -> Answer
 
 /// Puts the first line out.
 fn put_answer<S: Sink>(out: &mut S, answer: Answer)
-    ensures { PutOut took out.old (line_of_answer answer ++ (10 ∷ [])) out.new }
+    ensures { PutOut S.Sink.took out.old (line_of_answer answer ++ (10 ∷ [])) out.new }
 {
     let line = answer.line();
     out.put(line.as_slice());
@@ -110,7 +110,7 @@ fn put_answer<S: Sink>(out: &mut S, answer: Answer)
 /// Puts the last line out.
 fn put_last<S: Sink>(out: &mut S, count: u32, total: Total, letter: char)
     requires { letter < 128 }
-    ensures { PutOut took out.old (last_line count (total_text total) letter) out.new }
+    ensures { PutOut S.Sink.took out.old (last_line count (total_text total) letter) out.new }
 {
     out.put(b"trees ");
     put_number(out, count as u64);

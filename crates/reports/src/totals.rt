@@ -55,7 +55,7 @@ pub(crate) fn crossings_each(walk: &Walk<Pair<Crossings, Metres>>, count: u32) -
 
 /// Puts a number out in decimal.
 pub(crate) fn put_number<S: Sink>(out: &mut S, n: u64)
-    ensures { took out.old (decimal n) out.new }
+    ensures { S.Sink.took out.old (decimal n) out.new }
 {
     let digits = Digits::of(n);
     out.put(digits.as_slice());
@@ -63,7 +63,7 @@ pub(crate) fn put_number<S: Sink>(out: &mut S, n: u64)
 
 /// Puts a total out: crossings and metres have a stroke between them, and where there is none it is a dash.
 pub(crate) fn put_total<S: Sink>(out: &mut S, total: Total)
-    ensures { PutOut took out.old (total_text total) out.new }
+    ensures { PutOut S.Sink.took out.old (total_text total) out.new }
 {
     match total {
         Total::None => out.put(b"-"),

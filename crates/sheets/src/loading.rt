@@ -14,7 +14,7 @@ use networks::{Link, Network, Refusal};
 /// Reads a sheet into the first of the links and opens them as a network. Where the sheet is refused, the links are
 /// unaltered; where its links are refused, they stay in the list.
 pub fn load<K: SheetKind>(sheet: &[u8], links: &mut [Link<K>]) -> Result<Network<K>, Refusal>
-    ensures { MatchOption (first_of (read_rules letter width sheet.now (length links.old))) (Opened letter width bytes sheet.now links.old links.new result) (λ report. (refusal_of result ≡ Some report) × (links.new ≡ links.old)) }
+    ensures { MatchOption (first_of (read_rules K.SheetKind.letter K.SheetKind.width sheet.now (length links.old))) (Opened K.SheetKind.letter K.SheetKind.width K.SheetKind.bytes sheet.now links.old links.new result) (λ report. (refusal_of result ≡ Some report) × (links.new ≡ links.old)) }
 {
     match read(sheet, links) {
         Ok(counts) => open_first(counts, links),

@@ -62,9 +62,9 @@ impl Reader<'_> {
 
     /// The next weight.
     fn weight<K: SheetKind>(&mut self) -> K
-        requires { self.old.offset + width ≤ length self.old.bytes.now }
-        ensures value { bytes result ≡ take width (drop self.old.offset self.old.bytes.now) }
-        ensures offset { self.new.offset ≡ self.old.offset + width }
+        requires { self.old.offset + K.SheetKind.width ≤ length self.old.bytes.now }
+        ensures value { K.SheetKind.bytes result ≡ take K.SheetKind.width (drop self.old.offset self.old.bytes.now) }
+        ensures offset { self.new.offset ≡ self.old.offset + K.SheetKind.width }
         ensures same { self.new.bytes.now ≡ self.old.bytes.now }
     {
         let start = self.offset;
@@ -78,9 +78,9 @@ impl Reader<'_> {
 
     /// The next record.
     fn record<K: SheetKind>(&mut self) -> Link<K>
-        requires { self.old.offset + (2 + width) ≤ length self.old.bytes.now }
-        ensures value { record_of bytes result ≡ take (2 + width) (drop self.old.offset self.old.bytes.now) }
-        ensures offset { self.new.offset ≡ self.old.offset + (2 + width) }
+        requires { self.old.offset + (2 + K.SheetKind.width) ≤ length self.old.bytes.now }
+        ensures value { record_of K.SheetKind.bytes result ≡ take (2 + K.SheetKind.width) (drop self.old.offset self.old.bytes.now) }
+        ensures offset { self.new.offset ≡ self.old.offset + (2 + K.SheetKind.width) }
         ensures same { self.new.bytes.now ≡ self.old.bytes.now }
     {
         let from = self.byte();
@@ -91,8 +91,8 @@ impl Reader<'_> {
 
     /// Fills the links with the records of a sheet, of which there are as many.
     pub(crate) fn fill<K: SheetKind>(&mut self, links: &mut [Link<K>])
-        requires { (self.old.offset ≡ 0) × (length self.old.bytes.now ≡ length links.old * (2 + width)) }
-        ensures fills { flat_map (record_of bytes) links.new ≡ self.old.bytes.now }
+        requires { (self.old.offset ≡ 0) × (length self.old.bytes.now ≡ length links.old * (2 + K.SheetKind.width)) }
+        ensures fills { flat_map (record_of K.SheetKind.bytes) links.new ≡ self.old.bytes.now }
         ensures offset { self.new.offset ≡ length self.new.bytes.now }
         ensures same { self.new.bytes.now ≡ self.old.bytes.now }
     {

@@ -20,13 +20,13 @@ pub struct Counts {
 /// Reads a sheet of this kind into the first of the links, as many as it has, and leaves the others. The cost grows with
 /// the length of the sheet.
 pub fn read<K: SheetKind>(sheet: &[u8], links: &mut [Link<K>]) -> Result<Counts, Refusal>
-    ensures refuses { refusal_of result ≡ first_of (read_rules letter width sheet.now (length links.old)) }
-    ensures reads { IfOk result (λ n. sheet_of letter width bytes n.sites (take n.links links.new) ≡ sheet.now) }
+    ensures refuses { refusal_of result ≡ first_of (read_rules K.SheetKind.letter K.SheetKind.width sheet.now (length links.old)) }
+    ensures reads { IfOk result (λ n. sheet_of K.SheetKind.letter K.SheetKind.width K.SheetKind.bytes n.sites (take n.links links.new) ≡ sheet.now) }
     ensures fills { IfOk result (λ n. n.links ≤ length links.new) }
     ensures leaves { IfOk result (λ n. drop n.links links.new ≡ drop n.links links.old) }
     ensures keeps { OnErr result (links.new ≡ links.old) }
     // `write` takes what was read, given as many bytes as the sheet has.
-    ensures accepted { IfOk result (λ n. first_of (write_rules width n.sites (length (take n.links links.new)) (length sheet.now)) ≡ None) }
+    ensures accepted { IfOk result (λ n. first_of (write_rules K.SheetKind.width n.sites (length (take n.links links.new)) (length sheet.now)) ≡ None) }
 {
     let Some((header, mut records)) = take_header(sheet) else {
         return Err(Refusal::ShortSheet(sheet.len()));
@@ -43,7 +43,7 @@ pub fn read<K: SheetKind>(sheet: &[u8], links: &mut [Link<K>]) -> Result<Counts,
 
 /// Refuses a header that does not fit the kind or the size of the sheet, and more links than there is room for.
 fn check_fields<K: SheetKind>(header: &Header, size: usize, room: usize) -> Result<(), Refusal>
-    ensures { refusal_of result ≡ first_of (field_rules letter width size room header.now.length header.now.version header.now.kind header.now.sites header.now.links) }
+    ensures { refusal_of result ≡ first_of (field_rules K.SheetKind.letter K.SheetKind.width size room header.now.length header.now.version header.now.kind header.now.sites header.now.links) }
 {
     let length = header.length as usize;
     let links = header.links as usize;

@@ -14,13 +14,13 @@ use networks::{Layer, Link, Refusal};
 /// Writes the sheet of these links between so many sites into the first bytes, leaves the others, and answers the
 /// sheet's length. It does not look at the ends. The cost grows with the length of the sheet.
 pub fn write<K: SheetKind>(sites: u8, links: &[Link<K>], sheet: &mut [u8]) -> Result<usize, Refusal>
-    ensures refuses { refusal_of result ≡ first_of (write_rules width sites (length links.now) (length sheet.old)) }
-    ensures len { IfOk result (λ n. n ≡ length (sheet_of letter width bytes sites links.now)) }
-    ensures writes { IfOk result (λ n. sheet.new ≡ sheet_of letter width bytes sites links.now ++ drop n sheet.old) }
+    ensures refuses { refusal_of result ≡ first_of (write_rules K.SheetKind.width sites (length links.now) (length sheet.old)) }
+    ensures len { IfOk result (λ n. n ≡ length (sheet_of K.SheetKind.letter K.SheetKind.width K.SheetKind.bytes sites links.now)) }
+    ensures writes { IfOk result (λ n. sheet.new ≡ sheet_of K.SheetKind.letter K.SheetKind.width K.SheetKind.bytes sites links.now ++ drop n sheet.old) }
     ensures keeps { OnErr result (sheet.new ≡ sheet.old) }
     // `read` takes what was written, given room for the links; and no other links have the same sheet.
-    ensures accepted { OnOk result ((room : ℕ) → length links.now ≤ room → first_of (read_rules letter width (sheet_of letter width bytes sites links.now) room) ≡ None) }
-    ensures alone { OnOk result ((n : ℕ) (others : List (Link K)) → sheet_of letter width bytes n others ≡ sheet_of letter width bytes sites links.now → (n ≡ sites) × (others ≡ links.now)) }
+    ensures accepted { OnOk result ((room : ℕ) → length links.now ≤ room → first_of (read_rules K.SheetKind.letter K.SheetKind.width (sheet_of K.SheetKind.letter K.SheetKind.width K.SheetKind.bytes sites links.now) room) ≡ None) }
+    ensures alone { OnOk result ((n : ℕ) (others : List (Link K)) → sheet_of K.SheetKind.letter K.SheetKind.width K.SheetKind.bytes n others ≡ sheet_of K.SheetKind.letter K.SheetKind.width K.SheetKind.bytes sites links.now → (n ≡ sites) × (others ≡ links.now)) }
 {
     if sites < 1 || sites > 64 {
         return Err(Refusal::SiteCount);
@@ -41,7 +41,7 @@ pub fn write<K: SheetKind>(sites: u8, links: &[Link<K>], sheet: &mut [u8]) -> Re
 /// Writes the nine bytes of a header.
 fn put_header<K: SheetKind>(sites: u8, count: u16, places: &mut [u8])
     requires { (length places.old ≡ 9) × (count ≤ 512) }
-    ensures { places.new ≡ be32 (5 + count * (2 + width)) ++ (1 ∷ letter ∷ sites ∷ be16 count) }
+    ensures { places.new ≡ be32 (5 + count * (2 + K.SheetKind.width)) ++ (1 ∷ K.SheetKind.letter ∷ sites ∷ be16 count) }
 {
     let length = 5 + count as u32 * (2 + K::weight_width() as u32);
     let [a, b, c, d] = length.to_be_bytes();
@@ -51,8 +51,8 @@ fn put_header<K: SheetKind>(sites: u8, count: u16, places: &mut [u8])
 
 /// Writes one record.
 fn put_record<K: SheetKind>(link: Link<K>, places: &mut [u8])
-    requires { length places.old ≡ 2 + width }
-    ensures { places.new ≡ record_of bytes link }
+    requires { length places.old ≡ 2 + K.SheetKind.width }
+    ensures { places.new ≡ record_of K.SheetKind.bytes link }
 {
     places[0] = link.from;
     places[1] = link.to;
@@ -62,8 +62,8 @@ fn put_record<K: SheetKind>(link: Link<K>, places: &mut [u8])
 
 /// Writes one record after the other.
 fn put_records<K: SheetKind>(links: &[Link<K>], places: &mut [u8])
-    requires { (length places.old ≡ length links.now * (2 + width)) × (length links.now ≤ 512) }
-    ensures { places.new ≡ flat_map (record_of bytes) links.now }
+    requires { (length places.old ≡ length links.now * (2 + K.SheetKind.width)) × (length links.now ≤ 512) }
+    ensures { places.new ≡ flat_map (record_of K.SheetKind.bytes) links.now }
 {
     let width = 2 + K::weight_width() as usize;
     for number in 0..links.len() {

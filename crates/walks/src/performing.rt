@@ -26,11 +26,11 @@ fn answer_of(res: Result<(), Refusal>) -> Answer
 
 /// Performs one call.
 fn act<K: WeightKind, R: Receiver>(walk: &mut Walk<K>, receiver: &mut R, call: &mut Call) -> Answer
-    ensures performs { Performs scale amount walk.old walk.new (rule receiver.old) (R.Receiver.held receiver.old) (R.Receiver.held receiver.new) (asked_by call.old) (asked_by call.new) (heard_from result) }
-    ensures stays { Stays scale amount walk.old walk.new }
-    ensures rule { rule receiver.new ≡ rule receiver.old }
-    ensures spare { EndOf (spare receiver.old) (spare receiver.new) }
-    ensures lender { lender receiver.new ≡ lender receiver.old }
+    ensures performs { Performs K.WeightKind.scale K.WeightKind.amount walk.old walk.new (R.Receiver.rule receiver.old) (R.Receiver.held receiver.old) (R.Receiver.held receiver.new) (asked_by call.old) (asked_by call.new) (heard_from result) }
+    ensures stays { Stays K.WeightKind.scale K.WeightKind.amount walk.old walk.new }
+    ensures rule { R.Receiver.rule receiver.new ≡ R.Receiver.rule receiver.old }
+    ensures spare { EndOf (R.Receiver.spare receiver.old) (R.Receiver.spare receiver.new) }
+    ensures lender { R.Receiver.lender receiver.new ≡ R.Receiver.lender receiver.old }
 {
     match call {
         Call::Next(list) => answer_of(walk.next(list)),
@@ -44,12 +44,12 @@ fn act<K: WeightKind, R: Receiver>(walk: &mut Walk<K>, receiver: &mut R, call: &
 
 /// Performs the calls of all turns, in their order, on a walk just begun.
 fn act_all<K: WeightKind, R: Receiver>(walk: &mut Walk<K>, receiver: &mut R, turns: &mut [Turn])
-    requires begun { Begun scale amount walk.old }
+    requires begun { Begun K.WeightKind.scale K.WeightKind.amount walk.old }
     requires before { place_of walk.old ≡ None }
-    ensures promise { Performed scale amount (network_of walk.old) walk.new (rule receiver.old) (R.Receiver.held receiver.old) (R.Receiver.held receiver.new) turns.old turns.new }
-    ensures rule { rule receiver.new ≡ rule receiver.old }
-    ensures spare { EndOf (spare receiver.old) (spare receiver.new) }
-    ensures lender { lender receiver.new ≡ lender receiver.old }
+    ensures promise { Performed K.WeightKind.scale K.WeightKind.amount (network_of walk.old) walk.new (R.Receiver.rule receiver.old) (R.Receiver.held receiver.old) (R.Receiver.held receiver.new) turns.old turns.new }
+    ensures rule { R.Receiver.rule receiver.new ≡ R.Receiver.rule receiver.old }
+    ensures spare { EndOf (R.Receiver.spare receiver.old) (R.Receiver.spare receiver.new) }
+    ensures lender { R.Receiver.lender receiver.new ≡ R.Receiver.lender receiver.old }
 {
     for i in 0..turns.len() {
         let answer = act(walk, receiver, &mut turns[i].call);
@@ -64,10 +64,10 @@ pub fn perform<K: WeightKind, R: Receiver>(
     receiver: &mut R,
     turns: &mut [Turn],
 ) -> Walk<K>
-    ensures promise { Performed scale amount network result (rule receiver.old) (R.Receiver.held receiver.old) (R.Receiver.held receiver.new) turns.old turns.new }
-    ensures rule { rule receiver.new ≡ rule receiver.old }
-    ensures spare { EndOf (spare receiver.old) (spare receiver.new) }
-    ensures lender { lender receiver.new ≡ lender receiver.old }
+    ensures promise { Performed K.WeightKind.scale K.WeightKind.amount network result (R.Receiver.rule receiver.old) (R.Receiver.held receiver.old) (R.Receiver.held receiver.new) turns.old turns.new }
+    ensures rule { R.Receiver.rule receiver.new ≡ R.Receiver.rule receiver.old }
+    ensures spare { EndOf (R.Receiver.spare receiver.old) (R.Receiver.spare receiver.new) }
+    ensures lender { R.Receiver.lender receiver.new ≡ R.Receiver.lender receiver.old }
 {
     let mut walk = Walk::begin(network);
     act_all(&mut walk, receiver, turns);

@@ -32,10 +32,10 @@ fn go_back(rows: &mut Rows, kept: &Kept)
 /// given; then the walk and the receiver are as before.
 fn offer<R: Receiver>(rows: &mut Rows, receiver: &mut R) -> Option<Ending>
     ensures plan { plan_of rows.new ≡ plan_of rows.old }
-    ensures does { (L : List (List ℕ)) → ListedBy (plan_of rows.old) L → OfferDoes L (SitesJoined (graph_of (plan_of rows.old))) (rule receiver.old) (place_in rows.old) (held receiver.old) result (place_in rows.new) (held receiver.new) }
-    ensures rule { rule receiver.new ≡ rule receiver.old }
-    ensures spare { EndOf (spare receiver.old) (spare receiver.new) }
-    ensures lender { lender receiver.new ≡ lender receiver.old }
+    ensures does { (L : List (List ℕ)) → ListedBy (plan_of rows.old) L → OfferDoes L (SitesJoined (graph_of (plan_of rows.old))) (R.Receiver.rule receiver.old) (place_in rows.old) (R.Receiver.held receiver.old) result (place_in rows.new) (R.Receiver.held receiver.new) }
+    ensures rule { R.Receiver.rule receiver.new ≡ R.Receiver.rule receiver.old }
+    ensures spare { EndOf (R.Receiver.spare receiver.old) (R.Receiver.spare receiver.new) }
+    ensures lender { R.Receiver.lender receiver.new ≡ R.Receiver.lender receiver.old }
 {
     if !rows.joined() {
         return Some(Ending::NotJoined);
@@ -55,10 +55,10 @@ fn offer<R: Receiver>(rows: &mut Rows, receiver: &mut R) -> Option<Ending>
 /// were taken, and why it ended.
 pub(crate) fn pour_rows<R: Receiver>(rows: &mut Rows, receiver: &mut R, limit: u32) -> (u32, Ending)
     ensures plan { plan_of rows.new ≡ plan_of rows.old }
-    ensures does { (L : List (List ℕ)) → ListedBy (plan_of rows.old) L → PourDoes L (SitesJoined (graph_of (plan_of rows.old))) (rule receiver.old) (place_in rows.old) (held receiver.old) limit result.0 (letter_of result.1) (place_in rows.new) (held receiver.new) }
-    ensures rule { rule receiver.new ≡ rule receiver.old }
-    ensures spare { EndOf (spare receiver.old) (spare receiver.new) }
-    ensures lender { lender receiver.new ≡ lender receiver.old }
+    ensures does { (L : List (List ℕ)) → ListedBy (plan_of rows.old) L → PourDoes L (SitesJoined (graph_of (plan_of rows.old))) (R.Receiver.rule receiver.old) (place_in rows.old) (R.Receiver.held receiver.old) limit result.0 (letter_of result.1) (place_in rows.new) (R.Receiver.held receiver.new) }
+    ensures rule { R.Receiver.rule receiver.new ≡ R.Receiver.rule receiver.old }
+    ensures spare { EndOf (R.Receiver.spare receiver.old) (R.Receiver.spare receiver.new) }
+    ensures lender { R.Receiver.lender receiver.new ≡ R.Receiver.lender receiver.old }
 {
     let mut count = 0;
     while count < limit {
