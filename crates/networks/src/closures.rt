@@ -1,6 +1,6 @@
 //! Closing and opening links.
 
-ghost use Rattle.std.specs.Prelude.{◌≡◌, false, not, replicate, slice_set};
+ghost use Rattle.std.specs.Prelude.{◌≡◌, false, not, length, replicate, slice_set};
 ghost use Rattle.networks.specs.Closures.{states_of, closed_at, none_closed};
 
 use crate::closed::Closed;
@@ -33,7 +33,8 @@ impl Closed {
 
     /// Closes or opens this link; a number of 512 or more is no link's.
     pub(crate) fn put(&mut self, link: u16, state: bool)
-        ensures { states_of self.new ≡ slice_set (states_of self.old) link state }
+        ensures puts { states_of self.new ≡ slice_set (states_of self.old) link state }
+        ensures wide { length (states_of self.old) ≡ 512 }
     {
         let link = link as usize;
         if link < 512 {

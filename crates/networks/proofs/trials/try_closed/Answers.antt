@@ -22,7 +22,7 @@ returns c =
     let opened : open_only now-closed (graph_of p) ≡ without (graph_of p) link =
     same_graph p.sites p.count p.count (λ e. get_or p.from e 0) (λ e. get_or p.from e 0) (λ e. get_or p.to e 0) (λ e. get_or p.to e 0)
     (open_below now-closed p.count) (λ e. get_or p.usable e false && not (eqb e link)) refl (λ _. refl) (λ _. refl)
-    (λ e. ap (λ (ys : List Bool). ltb e p.count && not (get_or ys e false)) c.put.ensures ∙ closed_usable xs p.count link e c.args.closed.now.wide p.room
+    (λ e. ap (λ (ys : List Bool). ltb e p.count && not (get_or ys e false)) c.put.ensures.puts ∙ closed_usable xs p.count link e c.put.ensures.wide p.room
     ∙ ap (λ (b : Bool). b && not (eqb e link)) (sym (c.requires.open e))) in
     let graph : graph_of c.reopened.result ≡ without (graph_of p) link = c.reopened.ensures.graph ∙ opened in
     record {
@@ -30,7 +30,7 @@ returns c =
       writes = subst (λ (w : ℕ → ℕ). FirstWritten (without (graph_of p) link) numbers w r list list') c.reopened.ensures.marks
           (subst (λ (g : Graph). FirstWritten g numbers (mark_of c.reopened.result) r list list') graph c.write_first.ensures.writes);
       restores = λ e. ap (λ (ys : List Bool). get_or ys e false) c.drop-guard.ensures
-          ∙ ap (λ (ys : List Bool). get_or (set ys link c.is_closed-was.result) e false) c.put.ensures
+          ∙ ap (λ (ys : List Bool). get_or (set ys link c.is_closed-was.result) e false) c.put.ensures.puts
           ∙ ap (λ (b : Bool). get_or (set (set xs link true) link b) e false) was
           ∙ put_back xs link e;
     }

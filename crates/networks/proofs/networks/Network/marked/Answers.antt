@@ -22,33 +22,17 @@ invariant_of-result g c =
     let alike : Alike numbers k.scale mark w m = marks_alike k.scale g.met.K.WeightKind.lawful w m mark c.marks.ensures in
     let ranking = c.rank_links.ensures.ranks in
     let place : (i : ℕ) → i < m → get_or order i 0 ≡ get_or (take m order) i 0 = λ i l. sym (get_or-take m order i 0 l) in
-    let inside : (i : ℕ) → i < m → get_or order i 0 < m = λ i l. subst (λ (x : ℕ). x < m) (sym (place i l)) (ranking.links i l) in (
-      n.few,
-      (
-        (
-          c.links-links.ensures.few,
-          (
-            c.rank_links.ensures.len,
-            (
-              c.open_links.ensures.len,
-              (
-                (λ e l. subst (λ (x : ℕ). x < n.sites) (sym (c.starts.ensures e)) (from_inside n.sites links good e l)),
-                (
-                  (λ e l. subst (λ (x : ℕ). x < n.sites) (sym (c.ends.ensures e)) (to_inside n.sites links good e l)),
-                  (
-                    inside,
-                    (
-                      (λ i l. rank_alike numbers k.scale mark w m (get_or order i 0) alike (inside i l) ∙ ap (rank_of k.scale w m) (place i l) ∙ ranking.ranks i l),
-                      tt,
-                    ),
-                  ),
-                ),
-              ),
-            ),
-          ),
-        ),
-      ),
-    )
+    let inside : (i : ℕ) → i < m → get_or order i 0 < m = λ i l. subst (λ (x : ℕ). x < m) (sym (place i l)) (ranking.links i l) in
+    record {
+      few = n.few;
+      room = c.links-links.ensures.few;
+      wide = c.rank_links.ensures.len;
+      wideusable = c.open_links.ensures.len;
+      starts = λ e l. subst (λ (x : ℕ). x < n.sites) (sym (c.starts.ensures e)) (from_inside n.sites links good e l);
+      ends = λ e l. subst (λ (x : ℕ). x < n.sites) (sym (c.ends.ensures e)) (to_inside n.sites links good e l);
+      links = inside;
+      ranks = λ i l. rank_alike numbers k.scale mark w m (get_or order i 0) alike (inside i l) ∙ ap (rank_of k.scale w m) (place i l) ∙ ranking.ranks i l;
+    }
 
 pub returns : goal.returns
 returns g c =
