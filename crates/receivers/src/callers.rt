@@ -13,10 +13,10 @@ pub mod tests {
 
     // Offers two rows to any receiver.
     fn offer_two<R: Receiver>(r: &mut R, first: &[u16], second: &[u16])
-        ensures held { held r.new ≡ held_after_all (rule r.old) (held r.old) (first.now ∷ second.now ∷ []) }
-        ensures rule { rule r.new ≡ rule r.old }
-        ensures spare { EndOf (spare r.old) (spare r.new) }
-        ensures lender { lender r.new ≡ lender r.old }
+        ensures held { R.held r.new ≡ held_after_all (R.rule r.old) (R.held r.old) (first.now ∷ second.now ∷ []) }
+        ensures rule { R.rule r.new ≡ R.rule r.old }
+        ensures spare { EndOf (R.spare r.old) (R.spare r.new) }
+        ensures lender { R.lender r.new ≡ R.lender r.old }
     {
         let _ = r.take(first);
         let _ = r.take(second);

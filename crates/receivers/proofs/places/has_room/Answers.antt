@@ -1,4 +1,4 @@
-use Rattle.std.proofs.Common.{◌-◌, ◌≤◌, leb, length, take, ap, ◌∙◌, arith}
+use Rattle.std.proofs.Common.{◌-◌, leb, length, take, ap, ◌∙◌, arith}
 use Rattle.std.proofs.lemmas.List.{length-take}
 use Rattle.receivers.proofs.Fronts.{leb_left}
 use Rattle.receivers.proofs.places.has_room.Goals as goal

@@ -3,7 +3,6 @@ use Rattle.std.specs.List.{between}
 use Rattle.std.proofs.lemmas.List.Edits.{length-between}
 use Rattle.std.proofs.lemmas.Slice.{first_rest}
 use Rattle.receivers.specs.Writing.{spaced, entries_of}
-use Rattle.receivers.specs.RowLines.{row_bytes}
 use Rattle.receivers.proofs.types.RowLine.entries.Goals as goal
 
 pub returns-in-len1-up : goal.returns-in-len1-up

@@ -1,4 +1,4 @@
-use Rattle.std.proofs.Common.{ℕ, ◌<◌, ◌≤◌, List, map, length, get_or, set, sym, refl, ap, ◌∙◌, subst, arith}
+use Rattle.std.proofs.Common.{ℕ, ◌<◌, ◌≤◌, List, length, get_or, set, sym, refl, ap, ◌∙◌, subst, arith}
 use Rattle.std.proofs.lemmas.List.{length-set, map-set}
 use Rattle.receivers.specs.Tallies.{counts_of, lasts_of, once_more}
 use Rattle.receivers.proofs.Counting.{times_at, last_at, bounded_set, within_rows}
@@ -20,18 +20,16 @@ invariant_of-self c =
     let times = times_at t.links c.args.link inside in
     let last = last_at t.links c.args.link inside in
     let few : old.times ≤ t.rows = omega (arith, t.counted link, times) in
-    let room : old.last < t.rows → old.times < t.rows = λ less. omega (arith, times, c.requires.room (omega (arith, last))) in (
-      length-set t.links link new ∙ t.all,
-      (
-        λ k. subst (λ (xs : List ℕ). get_or xs k 0 ≤ t.rows) (sym (map-set (λ c. c.times) t.links link new))
-            (bounded_set (counts_of t) link new.times t.rows (within_rows old.last old.times new.times t.rows room few c.noted-count.ensures.times) t.counted k),
-        (
+    let room : old.last < t.rows → old.times < t.rows = λ less. omega (arith, times, c.requires.room (omega (arith, last))) in
+    record {
+      all = length-set t.links link new ∙ t.all;
+      counted =
+          λ k. subst (λ (xs : List ℕ). get_or xs k 0 ≤ t.rows) (sym (map-set (λ c. c.times) t.links link new))
+          (bounded_set (counts_of t) link new.times t.rows (within_rows old.last old.times new.times t.rows room few c.noted-count.ensures.times) t.counted k);
+      past =
           λ k. subst (λ (xs : List ℕ). get_or xs k 0 ≤ t.rows) (sym (map-set (λ c. c.last) t.links link new))
-              (bounded_set (lasts_of t) link new.last t.rows (omega (arith, c.noted-count.ensures.last)) t.past k),
-          tt,
-        ),
-      ),
-    )
+          (bounded_set (lasts_of t) link new.last t.rows (omega (arith, c.noted-count.ensures.last)) t.past k);
+    }
 
 pub returns : goal.returns
 returns c =

@@ -1,4 +1,4 @@
-use Rattle.std.proofs.Common.{◌+◌, ◌≤◌, length, refl, ap, arith}
+use Rattle.std.proofs.Common.{◌+◌, ◌≤◌, length, refl, arith}
 use Rattle.std.proofs.lemmas.Bool.{leb-true}
 use Rattle.receivers.specs.Writers.{written}
 use Rattle.receivers.proofs.Fronts.{used_more, unused_end}
