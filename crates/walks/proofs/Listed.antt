@@ -1,6 +1,6 @@
 -- Places in a listing, told by the order of rows: the row that comes next is the next one, and the last is the
 -- one after which none comes. The full list of a graph is such a listing.
-use Rattle.std.proofs.Common.{◌≡◌, ℕ, ◌+◌, List, [], ◌∷◌, ◌++◌, length, Some, None, Option, sym, refl, ap, ◌∙◌, subst, inl, inr}
+use Rattle.std.proofs.Common.{◌≡◌, ℕ, ◌+◌, List, [], ◌∷◌, ◌++◌, length, Some, None, Option, sym, refl, ap, ◌∙◌, subst, inl, inr, arith}
 use Rattle.weights.specs.Scales.{Scale}
 use Rattle.forests.specs.Graphs.{Graph, SitesJoined}
 use Rattle.forests.specs.Lists.{In, Ordered, Different}
@@ -59,7 +59,7 @@ module _ (key : ℕ → ℕ) (P : List ℕ → Type 0) (L : List (List ℕ)) (fu
 module _ (g : Graph) (s : Scale) (w : ℕ → s.Amount) (L : List (List ℕ)) (full : FullList g s w L) where
   -- where the sites are not joined the full list is empty
   pub not_joined_empty : (SitesJoined g → ⊥) → L ≡ []
-  not_joined_empty none = none_empty (rank g s w) (Cheapest g s w) L full (λ r c. none (r, c.row.tree.allowed, c.row.tree.joins))
+  not_joined_empty none = none_empty (rank g s w) (Cheapest g s w) L full (λ r c. none (let size = c.row.tree.size in omega arith, r, c.row.tree.allowed, c.row.tree.joins))
 
   -- a row that comes next has one entry less than there are sites
   pub row_size : (here : Option (List ℕ)) (row : List ℕ) → Comes L here row → length row + 1 ≡ g.sites

@@ -15,13 +15,13 @@ returns-in-Next g c =
     let walk = c.args.walk.now in
     let r = c.args.receiver.now in
     let n = c.next in
-    let list = c.deref-mut.result.now in
-    let same : list ≡ vec_items c.in-Next.list = c.deref-mut.ensures.value in
+    let list = c.deref_mut.result.now in
+    let same : list ≡ vec_items c.in-Next.list = c.deref_mut.ensures.value in
     record {
       performs = λ b L full.
           asked_as L (row_size walk.network) (SitesJoined (network_graph walk.network)) (ρ.rule r) (place_of walk) (ρ.held r) (ap asked_by c.in-Next.is ∙ ap (λ (xs : List ℕ). next xs) (sym same))
           (left_as L (row_size walk.network) (SitesJoined (network_graph walk.network)) (ρ.rule r) (place_of walk) (ρ.held r)
-          (ap (λ (xs : List ℕ). next xs) (take_front n.new.list _ c.in-Next.list.len (n.auto.list ∙ c.deref-mut.ensures.len)))
+          (ap (λ (xs : List ℕ). next xs) (take_front n.new.list _ c.in-Next.list.len (n.auto.list ∙ c.deref_mut.ensures.len)))
           (heard_alike L (row_size walk.network) (SitesJoined (network_graph walk.network)) (ρ.rule r) (place_of walk) (ρ.held r) c.answer_of.ensures
           (next_event L (row_size walk.network) (SitesJoined (network_graph walk.network)) (ρ.rule r) (place_of walk) (ρ.held r) list n.new.list (refusal_of n.result) (place_of n.new.self)
           (n.ensures.acts b L full))));
