@@ -47,7 +47,7 @@ module _ {K : Type 0} (s : Scale) (amount : K → s.Amount) (n : Network K) (L :
 
   -- where there is a row the sites are joined
   rows_joined : (row : List ℕ) → In row L → SitesJoined (network_graph n)
-  rows_joined row m = let c = full.sound row m in (row, c.row.tree.allowed, c.row.tree.joins)
+  rows_joined row m = let c = full.sound row m in let size = c.row.tree.size in (omega arith, row, c.row.tree.allowed, c.row.tree.joins)
 
   -- where there are rows, the last of them is listed
   pub on_row : (rows : List (List ℕ)) → 0 < length rows → NextMembers L None rows → (row : List ℕ) × (last_of None rows ≡ Some row) × In row L
