@@ -90,7 +90,7 @@ fn perform_drawn<R: Receiver>(
     receiver: &mut R,
     turns: &mut [Turn],
 ) -> Walk<Metres>
-    ensures { BringsShown network (rule receiver.old) (held receiver.old) (held receiver.new) turns.old turns.new }
+    ensures { BringsShown network (R.Receiver.rule receiver.old) (R.Receiver.held receiver.old) (R.Receiver.held receiver.new) turns.old turns.new }
 {
     perform(network, receiver, turns)
 }
