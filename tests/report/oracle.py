@@ -3,8 +3,8 @@
 It shares no code with the product: it follows docs/SHEETS.md, docs/REFUSALS.md and docs/DEFINITIONS.md.
 `answer` gives all that `trees` must print for any bytes.
 
-  python3 tests/oracle.py SHEET      prints the answer to a sheet
-  python3 tests/oracle.py --self     holds it to the worked example, and to trying every set of links on small networks
+  python3 tests/report/oracle.py SHEET      prints the answer to a sheet
+  python3 tests/report/oracle.py --self     holds it to the worked example, and to trying every set of links on small networks
 
 How the trees are listed: of the links of one weight, every cheapest tree has as many as join what those of lower weight
 leave apart, and which ones a tree takes of one weight does not bear on what it may take of another. So the choices are
