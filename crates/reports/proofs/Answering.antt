@@ -1,6 +1,5 @@
 -- From what loading gave to what is answered.
-use Rattle.std.proofs.Common.{◌≡◌, ℕ, List, length, Some, None, Ok, Err, Option, Result, sym, refl, ap, ◌∙◌, subst, arith, MatchOption}
-use Rattle.networks.specs.Opening.{open_rules}
+use Rattle.std.proofs.Common.{◌≡◌, ℕ, List, length, Some, None, Ok, Err, Option, Result, refl, ap, subst, arith, MatchOption}
 use Rattle.networks.specs.Refusals.{first_of, refusal_of}
 use Rattle.networks.specs.declared.links.Link.{Link}
 use Rattle.networks.specs.declared.networks.Network.{Network}

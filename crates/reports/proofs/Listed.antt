@@ -1,5 +1,5 @@
 -- A listing, one filling of the places at a time.
-use Rattle.std.proofs.Common.{◌≡◌, ℕ, ◌+◌, ◌-◌, ◌<◌, ◌≤◌, ◌⊎◌, List, [], ◌∷◌, ◌++◌, length, Some, None, Option, sym, refl, ap, ◌∙◌, subst, inl, inr, append_assoc, arith}
+use Rattle.std.proofs.Common.{◌≡◌, ℕ, ◌+◌, ◌-◌, ◌≤◌, List, [], ◌∷◌, ◌++◌, length, None, Option, sym, refl, ap, ◌∙◌, subst, inl, inr, append_assoc, arith}
 use Rattle.std.proofs.lemmas.List.{length-append}
 use Rattle.forests.specs.Graphs.{SitesJoined}
 use Rattle.weights.specs.Scales.{Scale}
@@ -8,7 +8,7 @@ use Rattle.networks.specs.declared.networks.Network.{Network}
 use Rattle.walks.specs.Acts.{Stays}
 use Rattle.walks.specs.Answering.{letter_l, letter_f}
 use Rattle.walks.specs.Places.{NextMembers, last_of}
-use Rattle.walks.specs.Walks.{network_of, place_of, Listed, Begun}
+use Rattle.walks.specs.Walks.{network_of, place_of, Listed}
 use Rattle.walks.specs.declared.walks.Walk.{Walk}
 use Rattle.walks.proofs.Listed.{listed_once}
 use Rattle.walks.proofs.Members.{next_more, last_append}

@@ -1,5 +1,5 @@
 -- The report of a network, from its parts.
-use Rattle.std.proofs.Common.{◌≡◌, ℕ, ◌<◌, ◌≤◌, ◌⊎◌, List, [], ◌∷◌, ◌++◌, map, length, Some, None, Option, sym, refl, ap, ◌∙◌, subst, inl, inr, arith}
+use Rattle.std.proofs.Common.{◌≡◌, ℕ, ◌<◌, List, [], ◌∷◌, ◌++◌, map, length, Some, sym, refl, ap, ◌∙◌, subst, arith}
 use Rattle.forests.specs.Graphs.{SitesJoined}
 use Rattle.forests.specs.Lists.{In}
 use Rattle.forests.proofs.Members.{in_left}
@@ -13,7 +13,7 @@ use Rattle.walks.specs.declared.walks.Walk.{Walk}
 use Rattle.walks.proofs.Alikes.{network_fits}
 use Rattle.reports.specs.Answers.{sound_line}
 use Rattle.reports.specs.Filling.{ListsPrinted}
-use Rattle.reports.specs.Listing.{lines_of, Printed, no_tree, all, first, last_line, Report}
+use Rattle.reports.specs.Listing.{lines_of, Printed, no_tree, all, first, last_line}
 use Rattle.reports.specs.Reports.{PutsNetwork}
 use Rattle.reports.specs.Sinks.{PutOut}
 use Rattle.reports.specs.Totals.{AllPriced, TotalOf, EachOf}

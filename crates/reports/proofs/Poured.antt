@@ -1,30 +1,28 @@
 -- A pour into a text writer over places that have room for any line.
-use Rattle.std.proofs.Common.{◌≡◌, ℕ, zero, suc, ◌+◌, ◌<◌, ◌≤◌, Bool, true, false, cond, ◌&&◌, leb, ◌⊎◌, List, [], ◌∷◌, ◌++◌, length, get_or, take, is_some, Some, None, Option, unwrap_or, sym, refl, ap, ◌∙◌, subst, inl, inr, append_assoc, append-nil, arith}
+use Rattle.std.proofs.Common.{◌≡◌, ℕ, ◌+◌, ◌<◌, ◌≤◌, Bool, true, false, cond, ◌⊎◌, List, [], ◌∷◌, ◌++◌, length, get_or, take, is_some, Some, None, Option, unwrap_or, sym, refl, ap, ◌∙◌, subst, inl, inr, append_assoc, append-nil, arith}
 use lib.Seq.{take-append_seam}
 use Rattle.std.proofs.lemmas.List.{length-append, length-take, get_or_past}
 use Rattle.std.proofs.lemmas.Bool.{cases_lt, le-leb}
 use Rattle.forests.specs.Graphs.{SitesJoined}
-use Rattle.forests.specs.Lists.{In}
 use Rattle.forests.proofs.Members.{in_get_d}
 use Rattle.weights.specs.Scales.{Scale, Lawful}
 use Rattle.cheapest.specs.Ranks.{rank}
 use Rattle.cheapest.specs.Trees.{Cheapest}
 use Rattle.cheapest.proofs.Theorems.{one_list}
-use Rattle.networks.specs.Networks.{sites_of, links_of, network_graph, weights_of}
+use Rattle.networks.specs.Networks.{links_of, network_graph, weights_of}
 use Rattle.networks.specs.declared.networks.Network.{Network}
-use Rattle.receivers.specs.Rules.{Rule, held_after, held_after_all}
+use Rattle.receivers.specs.Rules.{held_after, held_after_all}
 use Rattle.receivers.specs.Writing.{line_of, writable, writing, ShortRow}
 use Rattle.receivers.proofs.Lines.{line_short}
 use Rattle.walks.specs.Acts.{PourActs}
 use Rattle.walks.specs.Answering.{EndsFor, at_limit, no_tree, no_more, not_taken, letter_f}
-use Rattle.walks.specs.Doing.{PourDoes}
-use Rattle.walks.specs.Places.{NextMembers, Comes, last_of}
+use Rattle.walks.specs.Places.{Comes, last_of}
 use Rattle.walks.specs.Taking.{Declines, AllTaken}
 use Rattle.walks.specs.Walks.{network_of, place_of, Listed, Begun}
 use Rattle.walks.specs.declared.walks.Walk.{Walk}
 use Rattle.walks.proofs.Alikes.{network_fits}
 use Rattle.walks.proofs.Listed.{comes_member}
-use Rattle.reports.specs.Filling.{Stops, at_limit as stops-at-limit, no_tree as stops-no-tree, no_more as stops-no-more, Fills, FillsPlaces}
+use Rattle.reports.specs.Filling.{Stops, at_limit as stops-at-limit, no_tree as stops-no-tree, no_more as stops-no-more, FillsPlaces}
 use Rattle.reports.specs.Listing.{lines_of}
 
 no_false : false ≡ true → ⊥

@@ -1,5 +1,5 @@
 -- A row whose entries are all numbers of links has a price.
-use Rattle.std.proofs.Common.{◌≡◌, ℕ, List, length, is_some, Some, None, Ok, Err, Option, Result, sym, ap, ◌∙◌, arith}
+use Rattle.std.proofs.Common.{◌≡◌, ℕ, List, length, Some, None, Err, Option, Result, sym, ap, ◌∙◌, arith}
 use Rattle.networks.specs.Pricing.{price_rules}
 use Rattle.networks.specs.Refusals.{first_of, refusal_of, report_of}
 use Rattle.networks.specs.declared.links.Link.{Link}

@@ -1,5 +1,5 @@
 -- From the first rows to those that are printed.
-use Rattle.std.proofs.Common.{◌≡◌, ℕ, ◌<◌, ◌≤◌, Bool, true, false, ◌⊎◌, List, [], ◌∷◌, ◌++◌, length, Some, None, Option, sym, refl, ap, ◌∙◌, subst, inl, inr, append_assoc, append-nil, arith}
+use Rattle.std.proofs.Common.{◌≡◌, ℕ, ◌<◌, ◌≤◌, true, false, List, [], ◌∷◌, ◌++◌, length, Some, None, Option, sym, refl, ap, ◌∙◌, subst, inl, inr, append_assoc, append-nil, arith}
 use Rattle.forests.specs.Graphs.{SitesJoined}
 use Rattle.forests.specs.Lists.{In}
 use Rattle.forests.proofs.Members.{in_left}
@@ -9,7 +9,7 @@ use Rattle.cheapest.specs.Trees.{Cheapest}
 use Rattle.cheapest.proofs.Theorems.{one_list}
 use Rattle.networks.specs.Networks.{network_graph, weights_of}
 use Rattle.networks.specs.declared.networks.Network.{Network}
-use Rattle.walks.specs.Answering.{letter_l, letter_z, letter_x}
+use Rattle.walks.specs.Answering.{letter_l, letter_x}
 use Rattle.walks.specs.Places.{NextMembers, Comes, IsLast, last_of}
 use Rattle.walks.specs.Walks.{network_of, place_of, Listed}
 use Rattle.walks.specs.declared.walks.Walk.{Walk}
@@ -17,8 +17,7 @@ use Rattle.walks.proofs.Alikes.{network_fits}
 use Rattle.walks.proofs.Listed.{listed_once, comes_member}
 use Rattle.walks.proofs.Members.{Behind, behind_all, one_behind, next_more}
 use Rattle.reports.specs.Filling.{Stops, at_limit, no_tree, no_more, SaysFollows, ListsRows, ListsPrinted}
-use Rattle.reports.specs.Listing.{lines_of, Printed, no_tree as prints-none, all as prints-all, first as prints-first}
-use Rattle.reports.specs.Sinks.{PutOut}
+use Rattle.reports.specs.Listing.{Printed, no_tree as prints-none, all as prints-all, first as prints-first}
 
 -- the last of some rows is one of them
 last_in : (row : List ℕ) (rows : List (List ℕ)) → (last : List ℕ) × (last_of (Some row) rows ≡ Some last) × In last (row ∷ rows)

@@ -1,5 +1,5 @@
 -- Parts put out one behind the other.
-use Rattle.std.proofs.Common.{◌≡◌, ℕ, List, [], ◌++◌, sym, refl, ap, ◌∙◌, subst, append_assoc, append-nil}
+use Rattle.std.proofs.Common.{ℕ, List, [], ◌++◌, sym, refl, ap, ◌∙◌, subst, append_assoc, append-nil}
 use Rattle.reports.specs.Sinks.{PutOut, nothing, one_more}
 
 module _ {S : Type 0} (took : S → List ℕ → S → Type 0) where

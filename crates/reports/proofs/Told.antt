@@ -1,7 +1,6 @@
 -- From what loading gave to what is printed.
-use Rattle.std.proofs.Common.{◌≡◌, ℕ, List, [], ◌∷◌, ◌++◌, length, Some, None, Ok, Err, Option, Result, sym, refl, ap, ◌∙◌, subst, arith, MatchOption}
+use Rattle.std.proofs.Common.{◌≡◌, ℕ, List, [], ◌∷◌, ◌++◌, length, Some, None, Ok, Err, Option, Result, ap, ◌∙◌, subst, arith, MatchOption}
 use Rattle.weights.specs.Scales.{Scale}
-use Rattle.networks.specs.Opening.{open_rules}
 use Rattle.networks.specs.Refusals.{first_of, refusal_of, report_of, line_of}
 use Rattle.networks.specs.declared.links.Link.{Link}
 use Rattle.networks.specs.declared.networks.Network.{Network}

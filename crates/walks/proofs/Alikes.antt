@@ -1,21 +1,17 @@
 -- Two runs on networks with the same links, whose weights compare alike, bring the same.
-use Rattle.std.proofs.Common.{◌≡◌, ℕ, ◌-◌, Bool, not, ◌&&◌, ltb, List, map, length, sym, refl, ap, ◌∙◌, subst, ap₂}
+use Rattle.std.proofs.Common.{◌≡◌, ℕ, ◌-◌, not, ◌&&◌, ltb, List, map, sym, ap, ◌∙◌, subst}
 use Rattle.forests.specs.Graphs.{Graph, Fits, SitesJoined}
 use Rattle.weights.specs.Scales.{Scale, Lawful}
-use Rattle.cheapest.specs.Ranks.{Alike}
 use Rattle.cheapest.specs.Trees.{FullList}
 use Rattle.cheapest.proofs.SameRows.{same_rows}
 use Rattle.cheapest.proofs.Theorems.{one_list}
-use Rattle.networks.specs.Links.{open_below, from_of, to_of}
-use Rattle.networks.specs.Networks.{sites_of, links_of, network_graph, weights_of}
+use Rattle.networks.specs.Networks.{links_of, network_graph, weights_of}
 use Rattle.networks.specs.declared.networks.Network.{Network}
 use Rattle.networks.proofs.Inside.{from_inside, to_inside}
 use Rattle.receivers.specs.Rules.{Rule}
-use Rattle.walks.specs.Calls.{call_of, calls_of}
-use Rattle.walks.specs.Events.{Event}
 use Rattle.walks.specs.Promises.{Promised, SameLinks, WeighAlike, SameRun}
 use Rattle.walks.specs.Runs.{Kept}
-use Rattle.walks.specs.Turns.{asked, heard, left_by, heard_of}
+use Rattle.walks.specs.Turns.{asked, left_by, heard_of}
 use Rattle.walks.specs.Walks.{row_size, Listed, OneList}
 use Rattle.walks.specs.declared.turns.Turn.{Turn}
 use Rattle.walks.proofs.Agreeing.{kept_same}

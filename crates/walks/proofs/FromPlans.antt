@@ -1,5 +1,5 @@
 -- The full list of a walk's network is that of the plan that the walk goes through.
-use Rattle.std.proofs.Common.{◌≡◌, ℕ, List, length, sym, ap, ◌∙◌, subst}
+use Rattle.std.proofs.Common.{◌≡◌, ℕ, List, sym, ap, ◌∙◌, subst}
 use Rattle.forests.specs.Graphs.{Graph, Fits}
 use Rattle.weights.specs.Amounts.{numbers}
 use Rattle.weights.specs.Scales.{Scale, Lawful}
@@ -12,7 +12,7 @@ use Rattle.cheapest.proofs.Listed.{plan_fits}
 use Rattle.cheapest.proofs.Numbers.{numbers_lawful}
 use Rattle.cheapest.proofs.SameRows.{same_rows}
 use Rattle.networks.specs.Networks.{network_graph, weights_of}
-use Rattle.walks.specs.Walks.{network_of, place_of, Listed, ListedBy, Begun}
+use Rattle.walks.specs.Walks.{network_of, Listed, ListedBy, Begun}
 use Rattle.walks.specs.declared.walks.Walk.{Walk}
 
 module _ {K : Type 0} (s : Scale) (laws : Lawful s) (amount : K → s.Amount) (walk : Walk K) (b : Begun s amount walk) where

@@ -1,6 +1,6 @@
 -- Steps through rows, told by the full list: a step leads to the member that comes next, and where none can be
 -- made the place is the last.
-use Rattle.std.proofs.Common.{◌≡◌, ℕ, ◌+◌, ◌≤◌, Bool, true, false, cond, List, [], length, Some, None, Option, sym, refl, ap, ◌∙◌, subst, ap₂, ⊎_elim}
+use Rattle.std.proofs.Common.{◌≡◌, ℕ, Bool, true, false, cond, List, [], Some, None, Option, sym, refl, ap, ◌∙◌, subst, ap₂, ⊎_elim}
 use Rattle.std.proofs.lemmas.Bool.{cases_Bool}
 use Rattle.forests.specs.Graphs.{SitesJoined}
 use Rattle.weights.specs.Amounts.{numbers}
@@ -9,9 +9,7 @@ use Rattle.cheapest.specs.declared.kept.Kept.{Kept}
 use Rattle.cheapest.specs.Plans.{graph_of, mark_of}
 use Rattle.cheapest.specs.Positions.{plan_of, is_on, row_of, CheapestIn, Steps, Stops, SamePlace}
 use Rattle.cheapest.specs.Ranks.{rank}
-use Rattle.cheapest.specs.Trees.{Cheapest}
 use Rattle.cheapest.specs.declared.enumeration.Rows.{Rows}
-use Rattle.cheapest.specs.declared.plan.Plan.{Plan}
 use Rattle.cheapest.proofs.Stances.{standing, row_on}
 use Rattle.cheapest.proofs.Standings.{row_cheapest}
 use Rattle.walks.specs.Places.{NextMembers, Comes, IsLast}

@@ -1,12 +1,12 @@
 -- Single calls as events.
-use Rattle.std.proofs.Common.{◌≡◌, ℕ, zero, suc, List, [], ◌∷◌, ◌++◌, length, take, Some, None, Option, sym, refl, ap, ◌∙◌, subst, arith}
+use Rattle.std.proofs.Common.{◌≡◌, ℕ, zero, suc, List, [], ◌∷◌, ◌++◌, length, take, Some, None, Option, sym, refl, ap, ◌∙◌, arith}
 use Rattle.networks.specs.declared.refusals.Report.{Report}
 use Rattle.receivers.specs.Rules.{Rule}
 use Rattle.walks.specs.Calls.{Asked, next, pour, seek, call_of}
 use Rattle.walks.specs.Doing.{NextDoes, SeekDoes, PourDoes}
 use Rattle.walks.specs.Events.{Event, gives, refuses, pours, finds, misses}
 use Rattle.walks.specs.Steps.{Step}
-use Rattle.walks.specs.Turns.{Heard, done, refused, poured, heard_as, heard_of, left_by}
+use Rattle.walks.specs.Turns.{Heard, poured, heard_as, heard_of, left_by}
 
 pub take_front : (xs ys : List ℕ) (n : ℕ) → length xs ≡ n → take n (xs ++ ys) ≡ xs
 take_front [] ys n e = ap (λ (k : ℕ). take k ys) (sym e)

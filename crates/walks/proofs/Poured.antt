@@ -1,12 +1,12 @@
 -- A pour, one offer at a time.
-use Rattle.std.proofs.Common.{◌≡◌, ℕ, ◌+◌, ◌<◌, ◌≤◌, List, [], ◌∷◌, ◌++◌, length, Some, None, Option, sym, refl, ap, ◌∙◌, subst, arith}
+use Rattle.std.proofs.Common.{◌≡◌, ℕ, ◌+◌, ◌<◌, List, [], ◌∷◌, ◌++◌, length, Some, None, Option, sym, refl, ◌∙◌, subst, arith}
 use Rattle.std.proofs.lemmas.List.{length-append}
 use Rattle.forests.specs.Graphs.{SitesJoined}
 use Rattle.cheapest.specs.Plans.{graph_of}
 use Rattle.cheapest.specs.Positions.{plan_of}
 use Rattle.cheapest.specs.declared.enumeration.Rows.{Rows}
 use Rattle.cheapest.specs.declared.plan.Plan.{Plan}
-use Rattle.receivers.specs.Rules.{Rule, held_after}
+use Rattle.receivers.specs.Rules.{Rule}
 use Rattle.walks.specs.Answering.{EndsFor, at_limit, no_tree, no_more, letter_l}
 use Rattle.walks.specs.Doing.{OfferDoes, PourDoes}
 use Rattle.walks.specs.Letters.{letter_of}

@@ -1,7 +1,7 @@
 -- A run grows turn by turn.
-use Rattle.std.proofs.Common.{◌≡◌, ℕ, ◌+◌, ◌-◌, ◌<◌, ◌≤◌, List, [], ◌∷◌, ◌++◌, map, length, get_or, take, drop, set, None, Option, sym, refl, ap, ◌∙◌, subst, arith}
+use Rattle.std.proofs.Common.{◌≡◌, ℕ, ◌+◌, ◌<◌, List, [], ◌∷◌, ◌++◌, map, length, get_or, take, drop, set, None, Option, sym, refl, ap, ◌∙◌, subst, arith}
 use mathlib.Core.List.{map-append}
-use Rattle.std.proofs.lemmas.List.{drop-drop, take_all, take_more, take_more_set, drop-set-lt, get_or-drop, length-drop, length-set}
+use Rattle.std.proofs.lemmas.List.{drop-drop, take_all, take_more, take_more_set, drop-set-lt, get_or-drop, length-drop}
 use Rattle.forests.specs.Graphs.{SitesJoined}
 use Rattle.weights.specs.Scales.{Scale, Lawful}
 use Rattle.networks.specs.Networks.{network_graph, weights_of}
@@ -10,7 +10,7 @@ use Rattle.receivers.specs.Rules.{Rule}
 use Rattle.walks.specs.Acts.{Stays}
 use Rattle.walks.specs.Calls.{call_of}
 use Rattle.walks.specs.Events.{Event, latest}
-use Rattle.walks.specs.Promises.{Performs, Promised, Performed}
+use Rattle.walks.specs.Promises.{Performs, Performed}
 use Rattle.walks.specs.Runs.{Kept}
 use Rattle.walks.specs.Steps.{Step}
 use Rattle.walks.specs.Turns.{asked_by, heard_from, asked, heard, left_by, heard_of, Told}

@@ -1,12 +1,11 @@
 -- Links that stand in for one another in a plan are substitutes in the network that it stands for, and no others.
-use Rattle.std.proofs.Common.{◌≡◌, ℕ, ◌<◌, cond, leb, ◌↔◌, List, [], ◌∷◌, ◌++◌, Some, None, Option, sym, refl, ap, ◌∙◌, subst, ap₂, inl, inr, MatchOption}
+use Rattle.std.proofs.Common.{◌≡◌, ℕ, cond, leb, ◌↔◌, List, [], ◌∷◌, ◌++◌, Some, None, Option, sym, refl, ap, ◌∙◌, subst, ap₂, inl, inr, MatchOption}
 use Rattle.forests.specs.Graphs.{Graph, Fits}
 use Rattle.forests.specs.Lists.{In}
 use Rattle.weights.specs.Amounts.{numbers}
 use Rattle.weights.specs.Scales.{Scale, Lawful}
 use Rattle.cheapest.specs.Completions.{insert, sorted}
 use Rattle.cheapest.specs.Plans.{graph_of, mark_of}
-use Rattle.cheapest.specs.Positions.{CheapestIn}
 use Rattle.cheapest.specs.Ranks.{rank, Alike}
 use Rattle.cheapest.specs.StandIns.{StandsIn, FirstStandIn}
 use Rattle.cheapest.specs.Trees.{Cheapest}

@@ -1,6 +1,5 @@
 -- Where a walk stands, and what it has to do with the weights of its network.
 use Rattle.std.specs.Prelude.{◌≡◌, ℕ, ◌-◌, cond, List, [], length, Some, None, Option}
-use Rattle.forests.specs.Graphs.{Graph}
 use Rattle.weights.specs.Amounts.{numbers}
 use Rattle.weights.specs.Scales.{Scale}
 use Rattle.cheapest.specs.Plans.{graph_of, mark_of}

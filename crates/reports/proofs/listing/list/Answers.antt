@@ -1,4 +1,4 @@
-use Rattle.std.proofs.Common.{◌≡◌, Bool, true, false, ◌∙◌, subst, arith}
+use Rattle.std.proofs.Common.{Bool, ◌∙◌, subst, arith}
 use Rattle.reports.specs.Filling.{SaysFollows}
 use Rattle.reports.proofs.Printed.{listed_other, listed_more, listed_last, letter_small}
 use Rattle.reports.proofs.listing.list.Goals as goal

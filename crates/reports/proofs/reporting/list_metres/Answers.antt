@@ -1,5 +1,5 @@
 use Rattle.std.proofs.Common.{[], ◌∷◌, ◌++◌, length, sym, subst}
-use Rattle.weights.specs.Amounts.{numbers, pairs}
+use Rattle.weights.specs.Amounts.{numbers}
 use Rattle.weights.specs.declared.metres.Metres.{Metres}
 use Rattle.cheapest.proofs.Numbers.{numbers_lawful}
 use Rattle.networks.specs.Networks.{sites_of, links_of}

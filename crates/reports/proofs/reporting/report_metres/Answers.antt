@@ -1,11 +1,11 @@
 use Rattle.std.proofs.Common.{List, [], ◌∷◌, ◌++◌, replicate, Result, sym, refl, subst}
-use Rattle.weights.specs.Amounts.{numbers, pairs}
+use Rattle.weights.specs.Amounts.{numbers}
 use Rattle.weights.specs.declared.metres.Metres.{Metres}
 use Rattle.networks.specs.Refusals.{report_of, line_of}
 use Rattle.networks.specs.declared.links.Link.{Link}
 use Rattle.networks.specs.declared.networks.Network.{Network}
 use Rattle.networks.specs.declared.refusals.Refusal.{Refusal}
-use Rattle.sheets.specs.Numbers.{be16, be32}
+use Rattle.sheets.specs.Numbers.{be32}
 use Rattle.reports.specs.Listing.{metres_text}
 use Rattle.reports.proofs.Told.{Fitting, loaded_reports}
 use Rattle.reports.proofs.reporting.report_metres.Goals as goal

@@ -1,7 +1,6 @@
 use Rattle.std.proofs.Common.{◌≡◌, ℕ, ◌+◌, ◌<◌, List, length, get_or, set, sym, refl, ap, ◌∙◌, subst, arith}
 use Rattle.std.proofs.lemmas.List.{set-set, get_or-set_same, length-set}
 use Rattle.receivers.proofs.Fronts.{end_end}
-use Rattle.walks.specs.Turns.{asked_by}
 use Rattle.walks.specs.declared.turns.Turn.{Turn}
 use Rattle.walks.proofs.Offered.{end_self}
 use Rattle.walks.proofs.Running.{Ran, ran_none, ran_more, ran_all}

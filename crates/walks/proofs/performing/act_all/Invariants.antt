@@ -1,4 +1,4 @@
-use Rattle.std.proofs.Common.{◌≡◌, ◌≤◌, length}
+use Rattle.std.proofs.Common.{◌≡◌, length}
 use Rattle.receivers.specs.Rules.{EndOf}
 use Rattle.walks.proofs.Running.{Ran}
 use Rattle.walks.proofs.performing.act_all.Given as goal

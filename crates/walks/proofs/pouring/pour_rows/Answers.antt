@@ -1,4 +1,4 @@
-use Rattle.std.proofs.Common.{◌≡◌, sym, refl, ◌∙◌, arith}
+use Rattle.std.proofs.Common.{refl, ◌∙◌, arith}
 use Rattle.receivers.proofs.Fronts.{end_end}
 use Rattle.walks.proofs.Offered.{end_self}
 use Rattle.walks.proofs.Poured.{taken_none, taken_more, taken_ends, taken_all}

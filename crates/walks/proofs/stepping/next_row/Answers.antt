@@ -1,4 +1,4 @@
-use Rattle.std.proofs.Common.{◌≡◌, ℕ, ◌+◌, ◌-◌, List, [], ◌++◌, length, drop, sym, refl, ap, subst, arith}
+use Rattle.std.proofs.Common.{◌≡◌, ℕ, List, [], ◌++◌, length, drop, refl, subst, arith}
 use Rattle.cheapest.specs.Positions.{row_of}
 use Rattle.walks.specs.Answering.{no_row_follows}
 use Rattle.walks.proofs.Listed.{listed_once}

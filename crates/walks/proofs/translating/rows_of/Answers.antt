@@ -1,4 +1,4 @@
-use Rattle.std.proofs.Common.{◌≡◌, ℕ, ap, ◌∙◌}
+use Rattle.std.proofs.Common.{ap, ◌∙◌}
 use Rattle.forests.specs.Graphs.{Graph}
 use Rattle.weights.specs.Amounts.{numbers}
 use Rattle.cheapest.specs.Plans.{graph_of, mark_of}
