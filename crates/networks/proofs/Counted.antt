@@ -1,8 +1,7 @@
 -- How many numbers have a property, one number more at a time.
-use Rattle.std.proofs.Common.{◌≡◌, ℕ, ◌+◌, ◌<◌, ◌≤◌, Bool, true, false, eqb, ◌⊎◌, ◌↔◌, List, [], ◌∷◌, length, Decides, sym, refl, ap, subst, inl, inr, ⊎_elim, arith}
+use Rattle.std.proofs.Common.{◌≡◌, ℕ, ◌+◌, ◌<◌, ◌≤◌, Bool, true, false, eqb, ◌⊎◌, ◌↔◌, [], ◌∷◌, Decides, sym, refl, subst, inl, inr, ⊎_elim, arith}
 use mir.Val.{bool_byte}
 use Rattle.std.proofs.lemmas.Bool.{cases_Bool, eqb-true, eqb-false, false≢true}
-use Rattle.forests.specs.Lists.{In, Different}
 use Rattle.networks.specs.Classes.{Counted}
 
 pub counted_none : (P : ℕ → Type 0) → Counted P 0 0

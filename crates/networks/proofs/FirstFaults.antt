@@ -1,6 +1,6 @@
 -- What the rules of opening and of a price refuse: the first faulty link, the first faulty entry.
-use Rattle.std.proofs.Common.{◌≡◌, ℕ, zero, suc, ◌+◌, ◌<◌, ◌≤◌, Bool, true, false, cond, not, ◌&&◌, ◌||◌, eqb, ltb, leb, ◌⊎◌, List, [], ◌∷◌, length, get_or, take, Some, None, Option, sym, refl, ap, ◌∙◌, subst, inl, inr, ⊎_elim, zero-add, arith}
-use Rattle.std.proofs.lemmas.Bool.{cond-false, not-true, not-false, not_from_true, not_from_false, and_parts, and_from, and_cases, or_cases, or_parts, or_from, lt-ltb, ltb-true, ltb-false, le-leb, leb-true, leb-false, lt-leb, le-ltb, eqb-true}
+use Rattle.std.proofs.Common.{◌≡◌, ℕ, zero, suc, ◌+◌, ◌<◌, true, not, ◌&&◌, ◌||◌, eqb, ltb, leb, ◌⊎◌, List, [], ◌∷◌, length, get_or, take, Some, None, sym, refl, ap, ◌∙◌, subst, inl, inr, ⊎_elim, zero-add, arith}
+use Rattle.std.proofs.lemmas.Bool.{cond-false, not-true, not-false, not_from_true, not_from_false, and_parts, and_from, or_cases, or_parts, or_from, lt-ltb, ltb-true, ltb-false, le-leb, leb-true, leb-false, lt-leb, le-ltb, eqb-true}
 use Rattle.networks.specs.Links.{sound, from_of, to_of}
 use Rattle.networks.specs.Opening.{link_rules, open_rules, OpeningLaws}
 use Rattle.networks.specs.Pricing.{price_rules, Priced, PricingLaws}

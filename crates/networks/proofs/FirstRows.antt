@@ -1,12 +1,12 @@
 -- The first row, joined sites, and what closing one link makes of a graph.
-use Rattle.std.proofs.Common.{◌≡◌, ℕ, ◌+◌, ◌<◌, ◌≤◌, Bool, true, false, not, ◌&&◌, eqb, ltb, List, length, get_or, set, sym, refl, ap, ◌∙◌, subst, ap₂, ⊎_elim, arith}
+use Rattle.std.proofs.Common.{◌≡◌, ℕ, ◌+◌, ◌≤◌, Bool, true, false, not, ◌&&◌, eqb, ltb, List, length, get_or, set, sym, refl, ap, ◌∙◌, subst, ⊎_elim, arith}
 use Rattle.std.proofs.lemmas.List.{get_or-set_same, get_or-set_other, set-set, set-get_or}
 use Rattle.std.proofs.lemmas.Bool.{cases_Bool, eqb-true, eqb-false, ltb-true}
 use Rattle.forests.specs.Graphs.{Graph, SitesJoined}
 use Rattle.weights.specs.Amounts.{numbers}
 use Rattle.weights.specs.Scales.{Scale}
 use Rattle.cheapest.specs.Plans.{graph_of, mark_of}
-use Rattle.cheapest.specs.Positions.{plan_of, is_on, row_of, Steps, Begins, CheapestIn}
+use Rattle.cheapest.specs.Positions.{plan_of, is_on, row_of, Steps, Begins}
 use Rattle.cheapest.specs.declared.enumeration.Rows.{Rows}
 use Rattle.cheapest.specs.declared.plan.Plan.{Plan}
 use Rattle.networks.specs.Trials.{FirstRow}

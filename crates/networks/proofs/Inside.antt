@@ -1,5 +1,5 @@
 -- The ends of sound links are sites, and a network's graph by parts.
-use Rattle.std.proofs.Common.{◌≡◌, ℕ, zero, suc, ◌<◌, Bool, true, not, ◌&&◌, eqb, ltb, List, [], ◌∷◌, length, arith}
+use Rattle.std.proofs.Common.{◌≡◌, ℕ, zero, suc, ◌<◌, Bool, true, List, [], ◌∷◌, length, arith}
 use Rattle.std.proofs.lemmas.Bool.{and_parts, ltb-true}
 use Rattle.forests.specs.Graphs.{Graph}
 use Rattle.networks.specs.Links.{sound, from_of, to_of}

@@ -1,5 +1,5 @@
 -- The rules of a price, entry by entry.
-use Rattle.std.proofs.Common.{◌≡◌, ℕ, ◌+◌, ◌<◌, ◌≤◌, Bool, true, false, cond, not, ◌||◌, ltb, leb, ◌⊎◌, List, [], ◌∷◌, ◌++◌, map, length, get_or, take, drop, Some, None, sym, ap, ◌∙◌, inl, inr, ⊎_elim, arith}
+use Rattle.std.proofs.Common.{◌≡◌, ℕ, ◌+◌, ◌<◌, ◌≤◌, Bool, true, false, cond, not, ◌||◌, ltb, leb, ◌⊎◌, List, map, length, get_or, take, drop, Some, None, ap, ◌∙◌, ⊎_elim}
 use Rattle.std.proofs.lemmas.List.{at_drop_more, at_drop_all, take_more, map_push}
 use Rattle.std.proofs.lemmas.Bool.{cond-true, cond-false, or_left, or_right, or_from, le-leb, lt-leb, lt-ltb, le-ltb, not_from_true, not_from_false}
 use Rattle.weights.specs.Scales.{Scale, Lawful, sum_of}

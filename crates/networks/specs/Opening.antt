@@ -1,5 +1,5 @@
 -- When records are refused.
-use Rattle.std.specs.Prelude.{◌≡◌, ℕ, ◌+◌, ◌<◌, ◌≤◌, Bool, true, not, ◌&&◌, List, [], ◌∷◌, length, take, Some, None, ◌==◌, nat_le, nat_lt}
+use Rattle.std.specs.Prelude.{◌≡◌, ℕ, ◌+◌, ◌<◌, ◌≤◌, true, not, ◌&&◌, List, [], ◌∷◌, length, take, Some, None, ◌==◌, nat_le, nat_lt}
 use Rattle.networks.specs.Links.{sound, from_of, to_of}
 use Rattle.networks.specs.Refusals.{Rule, at, first_of}
 use Rattle.networks.specs.declared.links.Link.{Link}

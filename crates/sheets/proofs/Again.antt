@@ -1,9 +1,9 @@
 -- What is read can be written again, and what is written can be read again: sheets and links determine each other.
 -- A record has a fixed number of bytes, so equal bytes cut into equal records, and a record's bytes determine its ends
 -- and its weight.
-use Rattle.std.proofs.Common.{◌≡◌, ℕ, suc, ◌+◌, ◌-◌, ◌*◌, ◌/◌, ◌%◌, ◌<◌, ◌≤◌, Bool, true, not, ◌&&◌, eqb, ltb, leb, List, [], ◌∷◌, ◌++◌, length, get_or, take, drop, None, sym, refl, ap, ◌∙◌, arith}
+use Rattle.std.proofs.Common.{◌≡◌, ℕ, ◌+◌, ◌-◌, ◌*◌, ◌/◌, ◌%◌, ◌≤◌, leb, List, [], ◌∷◌, length, get_or, take, drop, None, sym, refl, ap, ◌∙◌, arith}
 use Rattle.std.specs.List.{flat_map}
-use Rattle.std.proofs.lemmas.List.{take_at, drop_at, length-append}
+use Rattle.std.proofs.lemmas.List.{take_at, drop_at}
 use Rattle.std.proofs.lemmas.Bool.{cond-false, not_from_true, and_from, eq-eqb, le-leb, le-ltb}
 use Rattle.networks.specs.Refusals.{first_of}
 use Rattle.networks.specs.declared.links.Link.{Link}

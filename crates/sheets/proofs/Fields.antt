@@ -1,5 +1,5 @@
 -- What a header says that no rule refuses.
-use Rattle.std.proofs.Common.{◌≡◌, ℕ, ◌+◌, ◌-◌, ◌*◌, ◌≤◌, Bool, not, ◌&&◌, eqb, ltb, leb, None}
+use Rattle.std.proofs.Common.{◌≡◌, ℕ, ◌+◌, ◌-◌, ◌*◌, ◌≤◌, not, ◌&&◌, eqb, ltb, leb, None}
 use Rattle.std.proofs.lemmas.Bool.{not-false, eqb-true, ltb-false, leb-true, and_parts}
 use Rattle.networks.specs.Refusals.{first_of}
 use Rattle.networks.proofs.Rules.{passed}

@@ -1,7 +1,7 @@
 -- Records one after the other.
-use Rattle.std.proofs.Common.{◌≡◌, ℕ, suc, ◌+◌, ◌*◌, ◌<◌, ◌≤◌, List, [], ◌∷◌, ◌++◌, length, get_or, take, drop, set, sym, refl, ap, ◌∙◌, mul-le-mul_right, add-mul, one-mul, arith}
+use Rattle.std.proofs.Common.{◌≡◌, ℕ, suc, ◌+◌, ◌*◌, ◌<◌, ◌≤◌, List, [], ◌∷◌, ◌++◌, length, get_or, take, drop, set, sym, ap, ◌∙◌, mul-le-mul_right, add-mul, one-mul, arith}
 use Rattle.std.specs.List.{flat_map}
-use Rattle.std.proofs.lemmas.List.{drop_more, take_more_set, take-take, drop-take, take-append-drop, flat_map_more, append-nil}
+use Rattle.std.proofs.lemmas.List.{drop_more, take_more_set, take-take, drop-take, take-append-drop, flat_map_more}
 
 -- two bytes and then w more, from an offset
 pub record_read : (xs : List ℕ) (o w : ℕ) → o + (2 + w) ≤ length xs → get_or xs o 0 ∷ get_or xs (o + 1) 0 ∷ take w (drop (o + 1 + 1) xs) ≡ take (2 + w) (drop o xs)

@@ -1,5 +1,5 @@
 -- The layout of a sheet.
-use Rattle.std.specs.Prelude.{ℕ, ◌+◌, ◌*◌, List, [], ◌∷◌, ◌++◌, length, slice_index}
+use Rattle.std.specs.Prelude.{ℕ, ◌+◌, ◌*◌, List, ◌∷◌, ◌++◌, length, slice_index}
 use Rattle.std.specs.List.{flat_map}
 use Rattle.networks.specs.declared.links.Link.{Link}
 use Rattle.sheets.specs.Numbers.{be16, be32}

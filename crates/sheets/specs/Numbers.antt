@@ -1,5 +1,5 @@
 -- Numbers on a sheet, the most significant byte first.
-use Rattle.std.specs.Prelude.{ℕ, ◌+◌, ◌*◌, ◌/◌, ◌%◌, List, [], ◌∷◌}
+use Rattle.std.specs.Prelude.{ℕ, ◌/◌, ◌%◌, List, [], ◌∷◌}
 
 -- a number in two bytes, and in four
 abbrev pub be16 : ℕ → List ℕ

@@ -1,4 +1,4 @@
-use Rattle.std.proofs.Common.{◌≡◌, ℕ, ◌<◌, Bool, not, length, sym, ap, ◌∙◌, arith}
+use Rattle.std.proofs.Common.{◌≡◌, ℕ, Bool, not, ap, ◌∙◌, arith}
 use Rattle.forests.specs.Counts.{count}
 use Rattle.networks.specs.Links.{weight_of}
 use Rattle.networks.proofs.Counts.{count_step}

@@ -1,4 +1,4 @@
-use Rattle.std.proofs.Common.{◌≡◌, ℕ, length, refl, ◌∙◌, arith}
+use Rattle.std.proofs.Common.{ℕ, length, refl, ◌∙◌, arith}
 use Rattle.std.proofs.lemmas.List.{length-set}
 use Rattle.networks.specs.Links.{weight_of, lighter_than}
 use Rattle.networks.proofs.Filled.{filled_none, filled_more, filled_here}

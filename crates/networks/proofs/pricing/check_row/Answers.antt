@@ -1,4 +1,4 @@
-use Rattle.std.proofs.Common.{◌≡◌, sym, ◌∙◌, inl, inr, ⊎_elim, arith, below_more}
+use Rattle.std.proofs.Common.{sym, ◌∙◌, inl, inr, ⊎_elim, arith, below_more}
 use Rattle.networks.specs.Pricing.{Priced}
 use Rattle.networks.proofs.Prices.{price_stops, price_goes, price_ends}
 use Rattle.networks.proofs.pricing.check_row.Goals as goal

@@ -1,4 +1,4 @@
-use Rattle.std.proofs.Common.{◌≡◌, ◌++◌, length, take, drop, Some, Option, sym, ap, ◌∙◌, subst, MatchOption}
+use Rattle.std.proofs.Common.{◌≡◌, ◌++◌, take, drop, Some, Option, sym, ap, ◌∙◌, subst, MatchOption}
 use Rattle.std.proofs.lemmas.List.{take-append-drop, length-take-le}
 use Rattle.networks.specs.Refusals.{refusal_of}
 use Rattle.networks.specs.declared.refusals.Report.{Report}

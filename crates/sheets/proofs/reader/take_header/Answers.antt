@@ -1,6 +1,5 @@
 use Rattle.std.proofs.Common.{refl, rules}
 use Rattle.std.proofs.lemmas.List.{take_rest}
-use Rattle.sheets.specs.Headers.{header_of}
 use Rattle.sheets.proofs.reader.take_header.Goals as goal
 
 pub returns : goal.returns

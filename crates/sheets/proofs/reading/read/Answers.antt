@@ -1,11 +1,11 @@
-use Rattle.std.proofs.Common.{◌≡◌, ◌+◌, ◌-◌, ◌*◌, ◌++◌, length, take, drop, None, sym, refl, ap, ◌∙◌, arith}
+use Rattle.std.proofs.Common.{◌≡◌, ◌+◌, ◌-◌, ◌*◌, ◌++◌, length, take, drop, sym, ap, ◌∙◌, arith}
 use borrow.Rule.Slice.PartMut.{post_of}
 use Rattle.std.proofs.lemmas.List.{length-take-le, length-drop, drop_at, take_at, length-append}
 use Rattle.std.proofs.lemmas.Bool.{cond-false, le-ltb}
 use Rattle.networks.specs.Refusals.{first_of}
 use Rattle.sheets.specs.Reading.{field_rules}
 use Rattle.sheets.specs.declared.reader.Header.{Header}
-use Rattle.sheets.proofs.Fields.{Sound, sound_fields}
+use Rattle.sheets.proofs.Fields.{sound_fields}
 use Rattle.sheets.proofs.Again.{read_accepted}
 use Rattle.sheets.proofs.Whole.{read_whole}
 use Rattle.sheets.proofs.reading.read.Goals as goal

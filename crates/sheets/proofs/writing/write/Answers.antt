@@ -1,7 +1,6 @@
-use Rattle.std.proofs.Common.{◌≡◌, ◌+◌, ◌-◌, ◌*◌, ◌≤◌, leb, ◌∷◌, ◌++◌, length, drop, sym, refl, ap, ◌∙◌, arith}
+use Rattle.std.proofs.Common.{◌≡◌, ◌+◌, ◌-◌, ◌*◌, leb, ◌∷◌, ◌++◌, length, drop, sym, ap, ◌∙◌, arith}
 use Rattle.std.specs.List.{flat_map}
 use Rattle.std.proofs.lemmas.Bool.{cond-false, not_from_true, and_from, le-leb, le-ltb}
-use Rattle.networks.specs.declared.links.Link.{Link}
 use Rattle.sheets.specs.Layout.{record_of}
 use Rattle.sheets.specs.Numbers.{be16, be32}
 use Rattle.sheets.proofs.Again.{sheet_accepted, sheet_alone}

@@ -1,7 +1,3 @@
-use Rattle.std.proofs.Common.{ap}
-use Rattle.cheapest.specs.Plans.{graph_of, mark_of}
-use Rattle.weights.specs.Amounts.{numbers}
-use Rattle.networks.specs.Classes.{HasClass, Counted}
 use Rattle.networks.specs.Networks.{network_graph, weights_of}
 use Rattle.networks.proofs.Asked.{count_asked}
 use Rattle.networks.proofs.networks.Network.count_of.Goals as goal

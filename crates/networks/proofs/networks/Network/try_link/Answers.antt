@@ -1,10 +1,8 @@
-use Rattle.std.proofs.Common.{◌≡◌, ℕ, Bool, false, Decides, sym, refl, ap, ◌∙◌, subst, arith}
+use Rattle.std.proofs.Common.{◌≡◌, ℕ, Decides, sym, refl, ap, ◌∙◌, subst, arith}
 use Rattle.forests.specs.Graphs.{Graph, SitesJoined}
-use Rattle.weights.specs.Amounts.{numbers}
-use Rattle.cheapest.specs.Plans.{graph_of, mark_of}
 use Rattle.networks.specs.Links.{open_below}
 use Rattle.networks.specs.Networks.{network_graph, weights_of}
-use Rattle.networks.specs.Trials.{without, FirstWritten}
+use Rattle.networks.specs.Trials.{without}
 use Rattle.networks.proofs.Asked.{first_asked}
 use Rattle.networks.proofs.networks.Network.try_link.Goals as goal
 

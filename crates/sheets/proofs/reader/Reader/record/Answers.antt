@@ -1,4 +1,4 @@
-use Rattle.std.proofs.Common.{◌≡◌, sym, ap, ◌∙◌, arith}
+use Rattle.std.proofs.Common.{arith}
 use Rattle.sheets.proofs.Records.{record_read}
 use Rattle.sheets.proofs.reader.Reader.record.Goals as goal
 
