@@ -83,12 +83,16 @@ pub mod tests {
         let heap = rt.alloc();
         let (r, bytes) = written(heap, 1, 14)?;
         assert_eq!(rt; r, refused(Layer::Sheet, 10, 14));
-        assert_eq!(rt; bytes.as_slice(), &[255; 14], "a refusal writes nothing");
+        assert_eq!(rt;
+            bytes.as_slice(),
+            [255; 14].as_slice(),
+            "a refusal writes nothing"
+        );
         let (r, bytes) = written(heap, 1, 16)?;
         assert_eq!(rt; r, None);
         assert_eq!(rt;
             bytes.as_slice(),
-            &[0, 0, 0, 11, 1, 87, 2, 0, 1, 0, 1, 0, 0, 0, 7, 255]
+            [0, 0, 0, 11, 1, 87, 2, 0, 1, 0, 1, 0, 0, 0, 7, 255].as_slice()
         );
         let (r, _) = written(heap, 512, 9 + 512 * 6)?;
         assert_eq!(rt; r, None);

@@ -36,8 +36,8 @@ pub mod tests {
             return Err(Fail::new("the sample is refused"));
         };
         assert_eq!(rt; network.sites(), 4);
-        assert_eq!(rt; network.links(), &sample());
-        assert_eq!(rt; network.ranking().numbers(), &[3, 0, 1, 2, 4]);
+        assert_eq!(rt; network.links(), sample().as_slice());
+        assert_eq!(rt; network.ranking().numbers(), [3, 0, 1, 2, 4].as_slice());
         Ok(())
     }
 
@@ -57,7 +57,7 @@ pub mod tests {
         let Ok(network) = Network::open(2, &links) else {
             return Err(Fail::new("three parallel links are refused"));
         };
-        assert_eq!(rt; network.ranking().numbers(), &[1, 2, 0]);
+        assert_eq!(rt; network.ranking().numbers(), [1, 2, 0].as_slice());
         Ok(())
     }
 

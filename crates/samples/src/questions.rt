@@ -78,7 +78,8 @@ pub mod tests {
         classes(&rt, &sample()?, ['S', 'S', 'S', 'A', 'S'], [1, 4, 0])?;
         classes(&rt, &opened(2, &[])?, ['-'; 5], [0, 0, 0])?;
         let apart = opened(3, &[link(0, 1, 7)])?;
-        classes(&rt, &apart, ['N', '-', '-', '-', '-'], [0, 0, 1]).note("there is no tree")
+        // There is no tree.
+        classes(&rt, &apart, ['N', '-', '-', '-', '-'], [0, 0, 1])
     }
 
     // What a trial answers, and what its four places hold afterwards that all held 9 before.
@@ -104,14 +105,16 @@ pub mod tests {
         tries(&rt, &mut network, 3, true, &[0, 1, 4, 9])?;
         tries(&rt, &mut network, 0, true, &[3, 1, 2, 9])?;
         tries(&rt, &mut network, 4, true, &[3, 0, 1, 9])?;
-        tries(&rt, &mut network, 5, true, &[3, 0, 1, 9]).note("no link is closed")?;
+        // No link is closed.
+        tries(&rt, &mut network, 5, true, &[3, 0, 1, 9])?;
         tries(&rt, &mut network, 65535, true, &[3, 0, 1, 9])?;
         classes(&rt, &network, ['S', 'S', 'S', 'A', 'S'], [1, 4, 0])?;
         let mut bridge = opened(2, &[link(0, 1, 7)])?;
         tries(&rt, &mut bridge, 0, false, &[9, 9, 9, 9])?;
         tries(&rt, &mut bridge, 0, false, &[9, 9, 9, 9])?;
         tries(&rt, &mut bridge, 1, true, &[0, 9, 9, 9])?;
-        tries(&rt, &mut opened(1, &[])?, 0, true, &[9, 9, 9, 9]).note("the empty row")
+        // The empty row.
+        tries(&rt, &mut opened(1, &[])?, 0, true, &[9, 9, 9, 9])
     }
 
     fn in_network(number: u8, place: usize) -> Option<Report> {
@@ -127,7 +130,11 @@ pub mod tests {
         assert_eq!(rt; outcome(network.count_class('a')), in_network(12, 0));
         let mut two = [9; 2];
         assert_eq!(rt; outcome(network.trial(9, &mut two)), in_network(10, 2));
-        assert_eq!(rt; &two[..], &[9; 2], "a refusal writes nothing");
+        assert_eq!(rt;
+            two.as_slice(),
+            [9; 2].as_slice(),
+            "a refusal writes nothing"
+        );
         assert_eq!(rt; outcome(network.trial(9, &mut [9; 3])), None);
         let mut apart = opened(2, &[])?;
         assert_eq!(rt; outcome(apart.trial(0, &mut [])), in_network(10, 0));
