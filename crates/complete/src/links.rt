@@ -17,9 +17,7 @@ fn link_back(links: &mut Vec<Link<Metres>>, site: u8) -> Result<(), AllocError>
             to: site,
             weight: Metres(1),
         };
-        if links.push(link).is_err() {
-            return Err(AllocError);
-        }
+        links.push(link)?;
     }
     Ok(())
 }
@@ -30,9 +28,7 @@ pub fn complete(heap: Global, sites: u8) -> Result<Vec<Link<Metres>>, AllocError
 {
     let mut links = Vec::new(heap);
     for site in 0..sites {
-        if let Err(error) = link_back(&mut links, site) {
-            return Err(error);
-        }
+        link_back(&mut links, site)?;
     }
     Ok(links)
 }

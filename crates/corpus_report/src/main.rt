@@ -1,5 +1,5 @@
 //! Reports many sheets in one run: each comes on standard input behind two bytes for its length, and for each all is
-//! printed that `trees` prints. What it must print was written by an independent reader (tests/make-corpus).
+//! printed that `trees_report` prints. What it must print was written by an independent reader (tests/report/make-corpus).
 
 #![tactic(auto)]
 

@@ -3,7 +3,7 @@
 ghost use Rattle.std.specs.Prelude.{◌≡◌, false, not, length, replicate, slice_set};
 ghost use Rattle.networks.specs.Closures.{states_of, closed_at, none_closed};
 
-use crate::closed::Closed;
+pub use crate::closed::Closed;
 
 impl Closed {
     /// Every link is open.

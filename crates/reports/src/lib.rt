@@ -1,4 +1,4 @@
-//! What the program `trees` prints of a sheet.
+//! What the programs `trees` and `trees_report` print of a sheet.
 
 #![tactic(auto)]
 

@@ -1,4 +1,4 @@
-//! `trees` reads a network sheet from standard input and prints its cheapest trees, or why it is refused.
+//! `trees_report` reads a network sheet from standard input and prints its cheapest trees, or why it is refused.
 
 #![tactic(auto)]
 

@@ -10,5 +10,5 @@ loop-site-preserved c =
     let was = vec_items c.loop-site.links in
     let now = vec_items c.link_back.new.links in
     let next : suc site ≡ site + 1 = omega arith in
-    subst (λ r. IfOk r (λ _. now ≡ was ++ links_back site)) c.in_default.is c.link_back.ensures
+    subst (λ r. IfOk r (λ _. now ≡ was ++ links_back site)) c.in_ok-link_back.was c.link_back.ensures
     ∙ ap (λ (links : List (Link Metres)). links ++ links_back site) c.loop-site.invariant ∙ ap links_below next

@@ -1,4 +1,4 @@
-use Rattle.std.proofs.Common.{◌≡◌, ℕ, List, None, Option, subst}
+use Rattle.std.proofs.Common.{ℕ, List, None, Option, subst}
 use Rattle.forests.specs.Graphs.{SitesJoined}
 use Rattle.weights.specs.Amounts.{numbers}
 use Rattle.weights.specs.declared.metres.Metres.{Metres}
