@@ -1,14 +1,14 @@
 -- What link records say.
 use Rattle.std.specs.Prelude.{ℕ, Bool, true, not, ◌&&◌, List, [], ◌∷◌, map, ◌==◌, nat_lt, slice_index, slice_index_or}
-use Rattle.weights.specs.Scales.{Scale}
+use Rattle.weights.specs.Scales.{Scale, Weighing}
 use Rattle.forests.specs.Counts.{count}
 use Rattle.networks.specs.Closures.{closed_at}
 use Rattle.networks.specs.declared.closed.Closed.{Closed}
 use Rattle.networks.specs.declared.links.Link.{Link}
 
 -- the amount of each link's weight, by the link's number
-abbrev pub weight_of : (s : Scale) {W : Type 0} → (W → s.Amount) → List (Link W) → ℕ → s.Amount
-weight_of s amount links e = slice_index_or (map (λ link. amount link.weight) links) e s.zero
+abbrev pub weight_of : {W : Type 0} (kind : Weighing W) → List (Link W) → ℕ → kind.scale.Amount
+weight_of kind links e = slice_index_or (map (λ link. kind.amount link.weight) links) e kind.scale.zero
 
 -- both ends of every link are sites, and different ones
 abbrev pub sound : {W : Type 0} → ℕ → List (Link W) → Bool

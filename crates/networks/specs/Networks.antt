@@ -1,7 +1,7 @@
 -- What a network holds.
 use Rattle.std.specs.Prelude.{ℕ, Bool, List, length, take}
 use Rattle.forests.specs.Graphs.{Graph}
-use Rattle.weights.specs.Scales.{Scale}
+use Rattle.weights.specs.Scales.{Weighing}
 use Rattle.networks.specs.Links.{weight_of, from_of, to_of, open_below}
 use Rattle.networks.specs.Closures.{closed_at}
 use Rattle.networks.specs.declared.links.Link.{Link}
@@ -17,8 +17,8 @@ module _ {K : Type 0} where
   links_of n = take n.count n.links
 
   -- the amount of each link's weight, by the link's number
-  abbrev pub weights_of : (s : Scale) → (K → s.Amount) → Network K → ℕ → s.Amount
-  weights_of s amount n = weight_of s amount (links_of n)
+  abbrev pub weights_of : (kind : Weighing K) → Network K → ℕ → kind.scale.Amount
+  weights_of kind n = weight_of kind (links_of n)
 
   abbrev pub closed_in : Network K → ℕ → Bool
   closed_in n e = closed_at n.closed e

@@ -72,14 +72,14 @@ impl<K: WeightKind> Network<K> {
 
     /// The class of a link of the network.
     fn class_of(&self, link: u16) -> Class
-        ensures { HasClass (network_graph self.now) K.WeightKind.scale (weights_of K.WeightKind.scale K.WeightKind.amount self.now) link result }
+        ensures { HasClass (network_graph self.now) K.WeightKind.weighing.scale (weights_of K.WeightKind.weighing self.now) link result }
     {
         class_in(&self.plan(), link)
     }
 
     /// How many links of the network have this class.
     fn count_of(&self, class: Class) -> usize
-        ensures { Counted (λ e. HasClass (network_graph self.now) K.WeightKind.scale (weights_of K.WeightKind.scale K.WeightKind.amount self.now) e class) (length (links_of self.now)) result }
+        ensures { Counted (λ e. HasClass (network_graph self.now) K.WeightKind.weighing.scale (weights_of K.WeightKind.weighing self.now) e class) (length (links_of self.now)) result }
     {
         count_in(&self.plan(), class)
     }
@@ -97,7 +97,7 @@ impl<K: WeightKind> Network<K> {
     /// The class of a link. Two runs over the links in rank order decide it.
     pub fn class(&self, link: u16) -> Result<Class, Refusal>
         ensures refuses { refusal_of result ≡ first_of (link_asked (length (links_of self.now)) link) }
-        ensures answers { IfOk result (λ c. HasClass (network_graph self.now) K.WeightKind.scale (weights_of K.WeightKind.scale K.WeightKind.amount self.now) link c) }
+        ensures answers { IfOk result (λ c. HasClass (network_graph self.now) K.WeightKind.weighing.scale (weights_of K.WeightKind.weighing self.now) link c) }
     {
         match self.can_try(link) {
             Ok(()) => Ok(self.class_of(link)),
@@ -109,9 +109,9 @@ impl<K: WeightKind> Network<K> {
     /// every link.
     pub fn count_class(&self, letter: char) -> Result<usize, Refusal>
         ensures refuses { refusal_of result ≡ first_of (letter_asked letter) }
-        ensures always { letter ≡ letter_of Always → IfOk result (λ k. Counted (λ e. HasClass (network_graph self.now) K.WeightKind.scale (weights_of K.WeightKind.scale K.WeightKind.amount self.now) e Always) (length (links_of self.now)) k) }
-        ensures sometimes { letter ≡ letter_of Sometimes → IfOk result (λ k. Counted (λ e. HasClass (network_graph self.now) K.WeightKind.scale (weights_of K.WeightKind.scale K.WeightKind.amount self.now) e Sometimes) (length (links_of self.now)) k) }
-        ensures never { letter ≡ letter_of Never → IfOk result (λ k. Counted (λ e. HasClass (network_graph self.now) K.WeightKind.scale (weights_of K.WeightKind.scale K.WeightKind.amount self.now) e Never) (length (links_of self.now)) k) }
+        ensures always { letter ≡ letter_of Always → IfOk result (λ k. Counted (λ e. HasClass (network_graph self.now) K.WeightKind.weighing.scale (weights_of K.WeightKind.weighing self.now) e Always) (length (links_of self.now)) k) }
+        ensures sometimes { letter ≡ letter_of Sometimes → IfOk result (λ k. Counted (λ e. HasClass (network_graph self.now) K.WeightKind.weighing.scale (weights_of K.WeightKind.weighing self.now) e Sometimes) (length (links_of self.now)) k) }
+        ensures never { letter ≡ letter_of Never → IfOk result (λ k. Counted (λ e. HasClass (network_graph self.now) K.WeightKind.weighing.scale (weights_of K.WeightKind.weighing self.now) e Never) (length (links_of self.now)) k) }
     {
         match letter {
             'A' => Ok(self.count_of(Class::Always)),

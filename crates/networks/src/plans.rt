@@ -19,7 +19,7 @@ use weights::WeightKind;
 fn mark<K: WeightKind>(links: &[Link<K>], link: usize) -> usize
     requires { link < length links.now }
     ensures inside { result ≤ length links.now }
-    ensures counts { result ≡ lighter_than K.WeightKind.scale (weight_of K.WeightKind.scale K.WeightKind.amount links.now) (length links.now) link }
+    ensures counts { result ≡ lighter_than K.WeightKind.weighing.scale (weight_of K.WeightKind.weighing links.now) (length links.now) link }
 {
     let mut lighter = 0;
     for x in 0..links.len() {
@@ -32,7 +32,7 @@ fn mark<K: WeightKind>(links: &[Link<K>], link: usize) -> usize
 /// The mark of every link.
 fn marks<K: WeightKind>(links: &[Link<K>]) -> [u16; 512]
     requires { length links.now ≤ 512 }
-    ensures { (e : ℕ) → e < length links.now → slice_index result e ≡ lighter_than K.WeightKind.scale (weight_of K.WeightKind.scale K.WeightKind.amount links.now) (length links.now) e }
+    ensures { (e : ℕ) → e < length links.now → slice_index result e ≡ lighter_than K.WeightKind.weighing.scale (weight_of K.WeightKind.weighing links.now) (length links.now) e }
 {
     let mut marks = [0; 512];
     for link in 0..links.len() {
@@ -83,8 +83,8 @@ impl<K: WeightKind> Network<K> {
     /// weights do. The cost grows with the square of the number of links.
     pub fn plan(&self) -> Plan
         ensures graph { graph_of result ≡ network_graph self.now }
-        ensures alike { Alike numbers K.WeightKind.scale (mark_of result) (weights_of K.WeightKind.scale K.WeightKind.amount self.now) (length (links_of self.now)) }
-        ensures marks { (e : ℕ) → e < length (links_of self.now) → mark_of result e ≡ lighter_than K.WeightKind.scale (weights_of K.WeightKind.scale K.WeightKind.amount self.now) (length (links_of self.now)) e }
+        ensures alike { Alike numbers K.WeightKind.weighing.scale (mark_of result) (weights_of K.WeightKind.weighing self.now) (length (links_of self.now)) }
+        ensures marks { (e : ℕ) → e < length (links_of self.now) → mark_of result e ≡ lighter_than K.WeightKind.weighing.scale (weights_of K.WeightKind.weighing self.now) (length (links_of self.now)) e }
     {
         self.marked()
     }
@@ -92,8 +92,8 @@ impl<K: WeightKind> Network<K> {
     /// The plan, as `plan` gives it.
     fn marked(&self) -> Plan
         ensures graph { graph_of result ≡ network_graph self.now }
-        ensures alike { Alike numbers K.WeightKind.scale (mark_of result) (weights_of K.WeightKind.scale K.WeightKind.amount self.now) (length (links_of self.now)) }
-        ensures marks { (e : ℕ) → e < length (links_of self.now) → mark_of result e ≡ lighter_than K.WeightKind.scale (weights_of K.WeightKind.scale K.WeightKind.amount self.now) (length (links_of self.now)) e }
+        ensures alike { Alike numbers K.WeightKind.weighing.scale (mark_of result) (weights_of K.WeightKind.weighing self.now) (length (links_of self.now)) }
+        ensures marks { (e : ℕ) → e < length (links_of self.now) → mark_of result e ≡ lighter_than K.WeightKind.weighing.scale (weights_of K.WeightKind.weighing self.now) (length (links_of self.now)) e }
     {
         let links = self.links();
         Plan {

@@ -14,7 +14,7 @@ use weights::WeightKind;
 /// in any order, repeats too.
 pub fn price<K: WeightKind>(links: &[Link<K>], row: &[u16]) -> Result<K::Total, Refusal>
     ensures refuses { refusal_of result ≡ first_of (price_rules (length links.now) 0 row.now) }
-    ensures sums { IfOk result (λ t. K.WeightKind.sum t ≡ sum_of K.WeightKind.scale (map (weight_of K.WeightKind.scale K.WeightKind.amount links.now) row.now)) }
+    ensures sums { IfOk result (λ t. K.WeightKind.sum t ≡ sum_of K.WeightKind.weighing.scale (map (weight_of K.WeightKind.weighing links.now) row.now)) }
     ensures counts { IfOk result (λ t. K.WeightKind.held t ≡ length row.now) }
     ensures level { IfOk result (λ t. K.WeightKind.level t) }
 {
@@ -41,7 +41,7 @@ fn check_row(records: usize, row: &[u16]) -> Result<(), Refusal>
 /// The total of the weights of a row that has a price.
 fn sum_row<K: WeightKind>(links: &[Link<K>], row: &[u16]) -> K::Total
     requires { (k : ℕ) → k < length row.now → Priced (length links.now) row.now k }
-    ensures sums { K.WeightKind.sum result ≡ sum_of K.WeightKind.scale (map (weight_of K.WeightKind.scale K.WeightKind.amount links.now) row.now) }
+    ensures sums { K.WeightKind.sum result ≡ sum_of K.WeightKind.weighing.scale (map (weight_of K.WeightKind.weighing links.now) row.now) }
     ensures counts { K.WeightKind.held result ≡ length row.now }
     ensures level { K.WeightKind.level result }
 {

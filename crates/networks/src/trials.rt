@@ -83,7 +83,7 @@ impl<K: WeightKind> Network<K> {
     fn try_link(&mut self, link: u16, list: &mut [u16]) -> bool
         requires { sites_of self.old ≤ length list.old + 1 }
         ensures joined { Decides result (SitesJoined (without (network_graph self.old) link)) }
-        ensures writes { FirstWritten (without (network_graph self.old) link) K.WeightKind.scale (weights_of K.WeightKind.scale K.WeightKind.amount self.old) result list.old list.new }
+        ensures writes { FirstWritten (without (network_graph self.old) link) K.WeightKind.weighing.scale (weights_of K.WeightKind.weighing self.old) result list.old list.new }
         ensures sites { sites_of self.new ≡ sites_of self.old }
         ensures links { links_of self.new ≡ links_of self.old }
         ensures closed { (e : ℕ) → closed_in self.new e ≡ closed_in self.old e }
@@ -98,7 +98,7 @@ impl<K: WeightKind> Network<K> {
     pub fn trial(&mut self, link: u16, list: &mut [u16]) -> Result<bool, Refusal>
         ensures refuses { TrialRefusal (network_graph self.old) (length list.old) (refusal_of result) }
         ensures joined { IfOk result (λ joined. Decides joined (SitesJoined (without (network_graph self.old) link))) }
-        ensures writes { IfOk result (λ joined. FirstWritten (without (network_graph self.old) link) K.WeightKind.scale (weights_of K.WeightKind.scale K.WeightKind.amount self.old) joined list.old list.new) }
+        ensures writes { IfOk result (λ joined. FirstWritten (without (network_graph self.old) link) K.WeightKind.weighing.scale (weights_of K.WeightKind.weighing self.old) joined list.old list.new) }
         ensures leaves { OnErr result (list.new ≡ list.old) }
         ensures sites { sites_of self.new ≡ sites_of self.old }
         ensures links { links_of self.new ≡ links_of self.old }

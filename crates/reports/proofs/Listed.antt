@@ -2,7 +2,7 @@
 use Rattle.std.proofs.Common.{◌≡◌, ℕ, ◌+◌, ◌-◌, ◌≤◌, List, [], ◌∷◌, ◌++◌, length, None, Option, sym, refl, ap, ◌∙◌, subst, inl, inr, append_assoc, arith}
 use Rattle.std.proofs.lemmas.List.{length-append}
 use Rattle.forests.specs.Graphs.{SitesJoined}
-use Rattle.weights.specs.Scales.{Scale}
+use Rattle.weights.specs.Scales.{Weighing}
 use Rattle.networks.specs.Networks.{network_graph}
 use Rattle.networks.specs.declared.networks.Network.{Network}
 use Rattle.walks.specs.Acts.{Stays}
@@ -23,33 +23,33 @@ lines_append [] ys = refl
 lines_append (x ∷ xs) ys = ap (λ zs. line_of x ++ zs) (lines_append xs ys) ∙ sym (append_assoc (line_of x) (lines_of xs) (lines_of ys))
 
 -- The lines of the first so many rows were put out on the way from `before` to `now`.
-pub record Gone {K : Type 0} (s : Scale) (amount : K → s.Amount) (before now : Walk K) {S : Type 0} (took : S → List ℕ → S → Type 0) (start here : S) (count : ℕ) : Type 0 where
-  pub stays : Stays s amount before now
-  pub so_far : (L : List (List ℕ)) → Listed s amount (network_of before) L
+pub record Gone {K : Type 0} (kind : Weighing K) (before now : Walk K) {S : Type 0} (took : S → List ℕ → S → Type 0) (start here : S) (count : ℕ) : Type 0 where
+  pub stays : Stays kind before now
+  pub so_far : (L : List (List ℕ)) → Listed kind (network_of before) L
       → (rows : List (List ℕ)) × (length rows ≡ count) × NextMembers L None rows × (place_of now ≡ last_of None rows) × PutOut took start (lines_of rows) here
 
-module _ {K : Type 0} (s : Scale) (amount : K → s.Amount) (before : Walk K) {S : Type 0} (took : S → List ℕ → S → Type 0) (start : S) where
-  pub gone_none : place_of before ≡ None → Gone s amount before before took start start 0
+module _ {K : Type 0} (kind : Weighing K) (before : Walk K) {S : Type 0} (took : S → List ℕ → S → Type 0) (start : S) where
+  pub gone_none : place_of before ≡ None → Gone kind before before took start start 0
   gone_none none = record {
     stays = record { network = refl; begun = λ b. b };
     so_far = λ L full. ([], refl, (L, refl), none, nothing refl refl);
   }
 
   -- All is listed.
-  pub gone_all : (now : Walk K) (here : S) (limit count : ℕ) → Gone s amount before now took start here count → count ≡ limit → ListsRows s amount before now took start here limit count letter_l
+  pub gone_all : (now : Walk K) (here : S) (limit count : ℕ) → Gone kind before now took start here count → count ≡ limit → ListsRows kind before now took start here limit count letter_l
   gone_all now here limit count gone all L full =
       let (rows, long, next, place, put) = gone.so_far L full in
       (rows, long, next, place, put, at_limit all refl)
 
   module _ (now next : Walk K) (here here' : S) (limit count taken letter : ℕ) (text : List ℕ)
-      (gone : Gone s amount before now took start here count) (fills : FillsPlaces s amount now next (limit - count) taken letter text)
-      (stays : Stays s amount now next) (put : took here text here') where
-    filled : (L : List (List ℕ)) → Listed s amount (network_of before) L → Fills L (SitesJoined (network_graph (network_of before))) (place_of now) (limit - count) taken letter (place_of next) text
+      (gone : Gone kind before now took start here count) (fills : FillsPlaces kind now next (limit - count) taken letter text)
+      (stays : Stays kind now next) (put : took here text here') where
+    filled : (L : List (List ℕ)) → Listed kind (network_of before) L → Fills L (SitesJoined (network_graph (network_of before))) (place_of now) (limit - count) taken letter (place_of next) text
     filled L full =
         subst (λ (n : Network K). Fills L (SitesJoined (network_graph n)) (place_of now) (limit - count) taken letter (place_of next) text) gone.stays.network
-        (fills L (subst (λ (n : Network K). Listed s amount n L) (sym gone.stays.network) full))
+        (fills L (subst (λ (n : Network K). Listed kind n L) (sym gone.stays.network) full))
 
-    more : (L : List (List ℕ)) → Listed s amount (network_of before) L
+    more : (L : List (List ℕ)) → Listed kind (network_of before) L
         → (rows : List (List ℕ)) × (length rows ≡ count + taken) × NextMembers L None rows × (place_of next ≡ last_of None rows) × PutOut took start (lines_of rows) here'
     more L full =
         let (rows, long, begins, place, out) = gone.so_far L full in
@@ -62,7 +62,7 @@ module _ {K : Type 0} (s : Scale) (amount : K → s.Amount) (before : Walk K) {S
           one_more (lines_of rows) text here out put (lines_append rows rows' ∙ ap (λ zs. lines_of rows ++ zs) (sym is)),
         )
 
-    pub gone_more : Gone s amount before next took start here' (count + taken)
+    pub gone_more : Gone kind before next took start here' (count + taken)
     gone_more = record {
       stays = record { network = stays.network ∙ gone.stays.network; begun = λ b. stays.begun (gone.stays.begun b) };
       so_far = more;
@@ -74,7 +74,7 @@ module _ {K : Type 0} (s : Scale) (amount : K → s.Amount) (before : Walk K) {S
     stops L J few (no_more j last l) = no_more j last l
 
     -- Not for want of places: for the reason that its letter says.
-    pub gone_ends : count ≤ limit → (letter ≡ letter_f → ⊥) → ListsRows s amount before next took start here' limit (count + taken) letter
+    pub gone_ends : count ≤ limit → (letter ≡ letter_f → ⊥) → ListsRows kind before next took start here' limit (count + taken) letter
     gone_ends few other L full =
         let (rows, long, begins, place, out) = more L full in
         let (_, _, _, _, _, why) = filled L full in (

@@ -3,7 +3,7 @@ use Rattle.std.proofs.Common.{◌≡◌, ℕ, ◌<◌, List, [], ◌∷◌, ◌+
 use Rattle.forests.specs.Graphs.{SitesJoined}
 use Rattle.forests.specs.Lists.{In}
 use Rattle.forests.proofs.Members.{in_left}
-use Rattle.weights.specs.Scales.{Scale, Lawful, sum_of}
+use Rattle.weights.specs.Scales.{Lawful, sum_of, Weighing}
 use Rattle.cheapest.specs.Trees.{Cheapest}
 use Rattle.cheapest.proofs.Theorems.{one_list}
 use Rattle.networks.specs.Networks.{sites_of, links_of, network_graph, weights_of}
@@ -30,30 +30,30 @@ in_some : (row : List ℕ) (rows : List (List ℕ)) → In row rows → 0 < leng
 in_some row [] m = absurd m
 in_some row (x ∷ rows) m = omega arith
 
-module _ {K : Type 0} (s : Scale) (laws : Lawful s) (amount : K → s.Amount) (shown : s.Amount → List ℕ) (before after : Walk K) where
+module _ {K : Type 0} (kind : Weighing K) (laws : Lawful kind.scale) (shown : kind.scale.Amount → List ℕ) (before after : Walk K) where
   abbrev n : Network K
   n = network_of before
 
-  abbrev w : ℕ → s.Amount
-  w = weights_of s amount n
+  abbrev w : ℕ → kind.scale.Amount
+  w = weights_of kind n
 
   -- every cheapest tree has the same total
-  one_total : (r r' : List ℕ) → Cheapest (network_graph n) s w r → Cheapest (network_graph n) s w r' → sum_of s (map w r) ≡ sum_of s (map w r')
-  one_total r r' c c' = laws.antisym (sum_of s (map w r)) (sum_of s (map w r')) (c.least r' c'.row.tree) (c'.least r c.row.tree)
+  one_total : (r r' : List ℕ) → Cheapest (network_graph n) kind.scale w r → Cheapest (network_graph n) kind.scale w r' → sum_of kind.scale (map w r) ≡ sum_of kind.scale (map w r')
+  one_total r r' c c' = laws.antisym (sum_of kind.scale (map w r)) (sum_of kind.scale (map w r')) (c.least r' c'.row.tree) (c'.least r c.row.tree)
 
   module _ {S : Type 0} (took : S → List ℕ → S → Type 0) (start listing listed end : S) (count letter : ℕ) (each : List ℕ)
-      (same : network_of after ≡ n) (lists : ListsPrinted s amount before after took listing listed count letter) (totals : EachOf s amount shown after count each) where
-    total_of : (L : List (List ℕ)) → Listed s amount n L → (here row : List ℕ) → 0 < count → place_of after ≡ Some here → In here L → In row L → each ≡ shown (sum_of s (map w row))
+      (same : network_of after ≡ n) (lists : ListsPrinted kind before after took listing listed count letter) (totals : EachOf kind shown after count each) where
+    total_of : (L : List (List ℕ)) → Listed kind n L → (here row : List ℕ) → 0 < count → place_of after ≡ Some here → In here L → In row L → each ≡ shown (sum_of kind.scale (map w row))
     total_of L full here row some place m m' =
         let c = full.sound here m in
-        let priced : AllPriced (links_of n) here = λ k inside. (let few = row_few s amount n L full here c in omega arith, row_links s amount n L full here c k inside) in
-        subst (λ (k : Network K). TotalOf s amount shown (links_of k) here each) same
-        (subst (λ (r : List ℕ). TotalOf s amount shown (links_of (network_of after)) r each) (ap row_at place) (totals.1 some)) priced
+        let priced : AllPriced (links_of n) here = λ k inside. (let few = row_few kind n L full here c in omega arith, row_links kind n L full here c k inside) in
+        subst (λ (k : Network K). TotalOf kind shown (links_of k) here each) same
+        (subst (λ (r : List ℕ). TotalOf kind shown (links_of (network_of after)) r each) (ap row_at place) (totals.1 some)) priced
         ∙ ap shown (one_total here row c (full.sound row m'))
 
-    pub report_of : PutOut took start (sound_line (sites_of n) (length (links_of n)) ++ (10 ∷ [])) listing → PutOut took listed (last_line count each letter) end → PutsNetwork s amount shown took n start end
+    pub report_of : PutOut took start (sound_line (sites_of n) (length (links_of n)) ++ (10 ∷ [])) listing → PutOut took listed (last_line count each letter) end → PutsNetwork kind shown took n start end
     report_of begins ends =
-        let list = one_list s laws (network_graph n) (network_fits n) w in
+        let list = one_list kind.scale laws (network_graph n) (network_fits n) w in
         let (rows, long, put, printed, on) = lists list.0 list.1 in
         let text : List ℕ = (sound_line (sites_of n) (length (links_of n)) ++ (10 ∷ [])) ++ (lines_of rows ++ last_line (length rows) each letter) in (
           text,

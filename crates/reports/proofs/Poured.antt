@@ -5,7 +5,7 @@ use Rattle.std.proofs.lemmas.List.{length-append, length-take, get_or_past}
 use Rattle.std.proofs.lemmas.Bool.{cases_lt, le-leb}
 use Rattle.forests.specs.Graphs.{SitesJoined}
 use Rattle.forests.proofs.Members.{in_get_d}
-use Rattle.weights.specs.Scales.{Scale, Lawful}
+use Rattle.weights.specs.Scales.{Lawful, Weighing}
 use Rattle.cheapest.specs.Ranks.{rank}
 use Rattle.cheapest.specs.Trees.{Cheapest}
 use Rattle.cheapest.proofs.Theorems.{one_list}
@@ -52,15 +52,15 @@ not_declined room row many short d =
     let takes : writable room 0 row ≡ true = cc in
     declined (writable room 0 row) (line_of row) takes d
 
-module _ {K : Type 0} (s : Scale) (amount : K → s.Amount) (n : Network K) (L : List (List ℕ)) (full : Listed s amount n L) where
+module _ {K : Type 0} (kind : Weighing K) (n : Network K) (L : List (List ℕ)) (full : Listed kind n L) where
   -- the entries of a row are few, and numbers of links
-  pub row_few : (row : List ℕ) → Cheapest (network_graph n) s (weights_of s amount n) row → length row ≤ 63
+  pub row_few : (row : List ℕ) → Cheapest (network_graph n) kind.scale (weights_of kind n) row → length row ≤ 63
   row_few row c = let size = c.row.tree.size in let few = n.few in omega arith
 
-  pub row_links : (row : List ℕ) → Cheapest (network_graph n) s (weights_of s amount n) row → (k : ℕ) → k < length row → get_or row k 0 < length (links_of n)
+  pub row_links : (row : List ℕ) → Cheapest (network_graph n) kind.scale (weights_of kind n) row → (k : ℕ) → k < length row → get_or row k 0 < length (links_of n)
   row_links row c k inside = (c.row.tree.allowed (get_or row k 0) (in_get_d row k 0 inside)).0
 
-  pub row_short : (row : List ℕ) → Cheapest (network_graph n) s (weights_of s amount n) row → ShortRow row
+  pub row_short : (row : List ℕ) → Cheapest (network_graph n) kind.scale (weights_of kind n) row → ShortRow row
   row_short row c = (
     row_few row c,
     λ k. elim (cases_lt k (length row)) [
@@ -70,17 +70,17 @@ module _ {K : Type 0} (s : Scale) (amount : K → s.Amount) (n : Network K) (L :
   )
 
   pub comes_short : (here : Option (List ℕ)) (row : List ℕ) → Comes L here row → ShortRow row
-  comes_short here row c = row_short row (comes_member (rank (network_graph n) s (weights_of s amount n)) (Cheapest (network_graph n) s (weights_of s amount n)) L full here (row ∷ []) c row (inl refl))
+  comes_short here row c = row_short row (comes_member (rank (network_graph n) kind.scale (weights_of kind n)) (Cheapest (network_graph n) kind.scale (weights_of kind n)) L full here (row ∷ []) c row (inl refl))
 
-module _ {K : Type 0} (s : Scale) (laws : Lawful s) (amount : K → s.Amount) (before after : Walk K) (room limit count letter : ℕ) (held' text : List ℕ)
-    (acts : PourActs s amount before after (writing room) [] limit count letter held') (begun : Begun s amount before) (same : text ≡ held') where
+module _ {K : Type 0} (kind : Weighing K) (laws : Lawful kind.scale) (before after : Walk K) (room limit count letter : ℕ) (held' text : List ℕ)
+    (acts : PourActs kind before after (writing room) [] limit count letter held') (begun : Begun kind before) (same : text ≡ held') where
   stops : (L : List (List ℕ)) (J : Type 0) (here : Option (List ℕ)) (held : List ℕ) → EndsFor L J (writing room) limit count here held letter → (letter ≡ letter_f) ⊎ Stops L J limit count here letter
   stops L J here held (at_limit e l) = inr (stops-at-limit e l)
   stops L J here held (no_tree u j l) = inr (stops-no-tree j l)
   stops L J here held (no_more u j last l) = inr (stops-no-more j last l)
   stops L J here held (not_taken u j last row comes d l) = inl l
 
-  pub poured_fills : FillsPlaces s amount before after limit count letter text
+  pub poured_fills : FillsPlaces kind before after limit count letter text
   poured_fills L full =
       let (rows, long, next, pours, place, hold) = acts begun L full in (
         rows,
@@ -93,8 +93,8 @@ module _ {K : Type 0} (s : Scale) (laws : Lawful s) (amount : K → s.Amount) (b
             (subst (λ (k : ℕ). EndsFor L (SitesJoined (network_graph (network_of before))) (writing room) limit k (last_of (place_of before) rows) (held_after_all (writing room) [] rows) letter) long pours.ends)),
       )
 
-  list : (L : List (List ℕ)) × Listed s amount (network_of before) L
-  list = let found = one_list s laws (network_graph (network_of before)) (network_fits (network_of before)) (weights_of s amount (network_of before)) in (found.0, found.1)
+  list : (L : List (List ℕ)) × Listed kind (network_of before) L
+  list = let found = one_list kind.scale laws (network_graph (network_of before)) (network_fits (network_of before)) (weights_of kind (network_of before)) in (found.0, found.1)
 
   pub poured_within : count ≤ limit
   poured_within =
@@ -109,7 +109,7 @@ module _ {K : Type 0} (s : Scale) (laws : Lawful s) (amount : K → s.Amount) (b
   one_taken J [] long many l (no_tree u j l') = absurd (omega arith)
   one_taken J [] long many l (no_more u j last l') = absurd (omega arith)
   one_taken J [] long many l (not_taken u j last row comes d l') =
-      absurd (not_declined room row many (comes_short s amount (network_of before) list.0 list.1 (place_of before) row comes) d)
+      absurd (not_declined room row many (comes_short kind (network_of before) list.0 list.1 (place_of before) row comes) d)
 
   -- where a line did not fit, lines were written before it
   pub poured_some : 378 ≤ room → letter ≡ letter_f → 0 < count

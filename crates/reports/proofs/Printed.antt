@@ -3,7 +3,7 @@ use Rattle.std.proofs.Common.{◌≡◌, ℕ, ◌<◌, ◌≤◌, true, false, L
 use Rattle.forests.specs.Graphs.{SitesJoined}
 use Rattle.forests.specs.Lists.{In}
 use Rattle.forests.proofs.Members.{in_left}
-use Rattle.weights.specs.Scales.{Scale, Lawful}
+use Rattle.weights.specs.Scales.{Lawful, Weighing}
 use Rattle.cheapest.specs.Ranks.{rank}
 use Rattle.cheapest.specs.Trees.{Cheapest}
 use Rattle.cheapest.proofs.Theorems.{one_list}
@@ -24,7 +24,7 @@ last_in : (row : List ℕ) (rows : List (List ℕ)) → (last : List ℕ) × (la
 last_in row [] = (row, refl, inl refl)
 last_in row (next ∷ rows) = let (last, is, member) = last_in next rows in (last, is, inr member)
 
-module _ {K : Type 0} (s : Scale) (amount : K → s.Amount) (n : Network K) (L : List (List ℕ)) (full : Listed s amount n L) where
+module _ {K : Type 0} (kind : Weighing K) (n : Network K) (L : List (List ℕ)) (full : Listed kind n L) where
   last_behind : (here : Option (List ℕ)) → IsLast L here → Behind L here []
   last_behind None last = absurd last
   last_behind (Some here) last = last
@@ -42,7 +42,7 @@ module _ {K : Type 0} (s : Scale) (amount : K → s.Amount) (n : Network K) (L :
       (after, is ∙ append_assoc rows (row ∷ []) after)
 
   row_listed : (here : Option (List ℕ)) (row : List ℕ) → Comes L here row → In row L
-  row_listed here row comes = full.whole row (comes_member (rank (network_graph n) s (weights_of s amount n)) (Cheapest (network_graph n) s (weights_of s amount n)) L full here (row ∷ []) comes row (inl refl))
+  row_listed here row comes = full.whole row (comes_member (rank (network_graph n) kind.scale (weights_of kind n)) (Cheapest (network_graph n) kind.scale (weights_of kind n)) L full here (row ∷ []) comes row (inl refl))
 
   -- where there is a row the sites are joined
   rows_joined : (row : List ℕ) → In row L → SitesJoined (network_graph n)
@@ -59,27 +59,27 @@ module _ {K : Type 0} (s : Scale) (amount : K → s.Amount) (n : Network K) (L :
   no_rows [] next none = refl
   no_rows (row ∷ rows) next none = absurd (none (let (last, is, member) = on_row (row ∷ rows) (omega arith) next in rows_joined last member))
 
-module _ {K : Type 0} (s : Scale) (amount : K → s.Amount) (before now : Walk K) {S : Type 0} (took : S → List ℕ → S → Type 0) (start end : S)
-    (count letter : ℕ) (lists : ListsRows s amount before now took start end 1000 count letter) where
+module _ {K : Type 0} (kind : Weighing K) (before now : Walk K) {S : Type 0} (took : S → List ℕ → S → Type 0) (start end : S)
+    (count letter : ℕ) (lists : ListsRows kind before now took start end 1000 count letter) where
   abbrev J : Type 0
   J = SitesJoined (network_graph (network_of before))
 
-  other_printed : (L : List (List ℕ)) → Listed s amount (network_of before) L → (rows : List (List ℕ)) → length rows ≡ count → count ≤ 1000 → NextMembers L None rows → place_of now ≡ last_of None rows
+  other_printed : (L : List (List ℕ)) → Listed kind (network_of before) L → (rows : List (List ℕ)) → length rows ≡ count → count ≤ 1000 → NextMembers L None rows → place_of now ≡ last_of None rows
       → (letter ≡ letter_l → ⊥) → Stops L J 1000 count (place_of now) letter → Printed L J rows letter
   other_printed L full rows long few next place other (at_limit e l) = absurd (other l)
-  other_printed L full rows long few next place other (no_tree j l) = prints-none j (no_rows s amount (network_of before) L full rows next j) l
+  other_printed L full rows long few next place other (no_tree j l) = prints-none j (no_rows kind (network_of before) L full rows next j) l
   other_printed L full rows long few next place other (no_more j last l) =
-      prints-all j (omega arith) (ends_here s amount (network_of before) L full rows next (subst (λ (o : Option (List ℕ)). IsLast L o) place last)) l
+      prints-all j (omega arith) (ends_here kind (network_of before) L full rows next (subst (λ (o : Option (List ℕ)). IsLast L o) place last)) l
 
   -- it ended before the limit
-  pub listed_other : count ≤ 1000 → (letter ≡ letter_l → ⊥) → ListsPrinted s amount before now took start end count letter
+  pub listed_other : count ≤ 1000 → (letter ≡ letter_l → ⊥) → ListsPrinted kind before now took start end count letter
   listed_other few other L full =
       let (rows, long, next, place, put, why) = lists L full in (
         rows,
         long,
         put,
         other_printed L full rows long few next place other why,
-        λ some. let (row, is, member) = on_row s amount (network_of before) L full rows (omega arith) next in (row, place ∙ is, member),
+        λ some. let (row, is, member) = on_row kind (network_of before) L full rows (omega arith) next in (row, place ∙ is, member),
       )
 
   limit_count : (L : List (List ℕ)) → letter ≡ letter_l → Stops L J 1000 count (place_of now) letter → count ≡ 1000
@@ -88,27 +88,27 @@ module _ {K : Type 0} (s : Scale) (amount : K → s.Amount) (before now : Walk K
   limit_count L l (no_more j last l') = absurd (omega arith)
 
   module _ (next : Walk K) (is-limit : letter ≡ letter_l) (same : network_of now ≡ network_of before) where
-    listed_now : (L : List (List ℕ)) → Listed s amount (network_of before) L → Listed s amount (network_of now) L
-    listed_now L full = subst (λ (n : Network K). Listed s amount n L) (sym same) full
+    listed_now : (L : List (List ℕ)) → Listed kind (network_of before) L → Listed kind (network_of now) L
+    listed_now L full = subst (λ (n : Network K). Listed kind n L) (sym same) full
 
     -- a row follows
-    pub listed_more : SaysFollows s amount now next true → ListsPrinted s amount before next took start end count letter_l
+    pub listed_more : SaysFollows kind now next true → ListsPrinted kind before next took start end count letter_l
     listed_more follows L full =
         let (rows, long, members, place, put, why) = lists L full in
         let (row, comes, on) = follows L (listed_now L full) in
         let comes' = subst (λ (o : Option (List ℕ)). Comes L o row) place comes in
-        let member = row_listed s amount (network_of before) L full (last_of None rows) row comes' in
-        let (after, is) = goes_on s amount (network_of before) L full rows row members comes' in
-        (rows, long, put, prints-first (rows_joined s amount (network_of before) L full row member) (long ∙ limit_count L is-limit why) row after is refl, λ some. (row, on, member))
+        let member = row_listed kind (network_of before) L full (last_of None rows) row comes' in
+        let (after, is) = goes_on kind (network_of before) L full rows row members comes' in
+        (rows, long, put, prints-first (rows_joined kind (network_of before) L full row member) (long ∙ limit_count L is-limit why) row after is refl, λ some. (row, on, member))
 
     -- none follows
-    pub listed_last : SaysFollows s amount now next false → ListsPrinted s amount before next took start end count letter_x
+    pub listed_last : SaysFollows kind now next false → ListsPrinted kind before next took start end count letter_x
     listed_last follows L full =
         let (rows, long, members, place, put, why) = lists L full in
         let (none, stays) = follows L (listed_now L full) in
         let many = limit_count L is-limit why in
-        let (row, is, member) = on_row s amount (network_of before) L full rows (omega arith) members in
-        let joined = rows_joined s amount (network_of before) L full row member in
+        let (row, is, member) = on_row kind (network_of before) L full rows (omega arith) members in
+        let joined = rows_joined kind (network_of before) L full row member in
         let last : IsLast L (place_of now) = elim none [
           | inl j ↦ absurd (j (subst (λ (n : Network K). SitesJoined (network_graph n)) (sym same) joined))
           | inr last ↦ last
@@ -116,7 +116,7 @@ module _ {K : Type 0} (s : Scale) (amount : K → s.Amount) (before now : Walk K
           rows,
           long,
           put,
-          prints-all joined (omega arith) (ends_here s amount (network_of before) L full rows members (subst (λ (o : Option (List ℕ)). IsLast L o) place last)) refl,
+          prints-all joined (omega arith) (ends_here kind (network_of before) L full rows members (subst (λ (o : Option (List ℕ)). IsLast L o) place last)) refl,
           λ some. (row, stays ∙ place ∙ is, member),
         )
 
@@ -125,8 +125,8 @@ module _ {K : Type 0} (s : Scale) (amount : K → s.Amount) (before now : Walk K
   letter_of L (no_tree j l) = omega arith
   letter_of L (no_more j last l) = omega arith
 
-  pub letter_small : Lawful s → letter < 128
+  pub letter_small : Lawful kind.scale → letter < 128
   letter_small laws =
-      let list = one_list s laws (network_graph (network_of before)) (network_fits (network_of before)) (weights_of s amount (network_of before)) in
+      let list = one_list kind.scale laws (network_graph (network_of before)) (network_fits (network_of before)) (weights_of kind (network_of before)) in
       let (rows, long, next, place, put, why) = lists list.0 list.1 in
       letter_of list.0 why

@@ -2,7 +2,7 @@
 use Rattle.std.specs.Prelude.{◌≡◌, ℕ, ◌≤◌, List, [], ◌∷◌, ◌++◌, map, length, codes, decimal}
 use Rattle.forests.specs.Graphs.{SitesJoined}
 use Rattle.forests.specs.Lists.{In}
-use Rattle.weights.specs.Scales.{Scale, sum_of}
+use Rattle.weights.specs.Scales.{sum_of, Weighing}
 use Rattle.networks.specs.Networks.{sites_of, links_of, network_graph, weights_of}
 use Rattle.networks.specs.declared.networks.Network.{Network}
 use Rattle.receivers.specs.Writing.{line_of}
@@ -37,13 +37,13 @@ crossings_text total = decimal total.0 ++ (47 ∷ decimal total.1)
 
 -- What is printed of a network, where totals are printed as `shown` says: sites and links, the lines of the rows, and
 -- the last line with their number, the total of each (a dash where there is none) and the ending.
-pub record Report {K : Type 0} (s : Scale) (amount : K → s.Amount) (shown : s.Amount → List ℕ) (n : Network K) (text : List ℕ) : Type 0 where
+pub record Report {K : Type 0} (kind : Weighing K) (shown : kind.scale.Amount → List ℕ) (n : Network K) (text : List ℕ) : Type 0 where
   pub full : List (List ℕ)
-  pub listed : Listed s amount n full
+  pub listed : Listed kind n full
   pub rows : List (List ℕ)
   pub letter : ℕ
   pub printed : Printed full (SitesJoined (network_graph n)) rows letter
   pub each : List ℕ
   pub dash : rows ≡ [] → each ≡ codes "-"
-  pub total : (row : List ℕ) → In row rows → each ≡ shown (sum_of s (map (weights_of s amount n) row))
+  pub total : (row : List ℕ) → In row rows → each ≡ shown (sum_of kind.scale (map (weights_of kind n) row))
   pub whole : text ≡ (sound_line (sites_of n) (length (links_of n)) ++ (10 ∷ [])) ++ (lines_of rows ++ last_line (length rows) each letter)

@@ -1,6 +1,6 @@
 -- The text of a total.
 use Rattle.std.specs.Prelude.{◌≡◌, ℕ, ◌<◌, List, map, length, codes}
-use Rattle.weights.specs.Scales.{Scale, sum_of}
+use Rattle.weights.specs.Scales.{sum_of, Weighing}
 use Rattle.networks.specs.Links.{weight_of}
 use Rattle.networks.specs.Networks.{links_of}
 use Rattle.networks.specs.Pricing.{Priced}
@@ -22,10 +22,10 @@ module _ {K : Type 0} where
   abbrev pub AllPriced : List (Link K) → List ℕ → Type 0
   AllPriced links row = (k : ℕ) → k < length row → Priced (length links) row k
 
-  module _ (s : Scale) (amount : K → s.Amount) (shown : s.Amount → List ℕ) where
+  module _ (kind : Weighing K) (shown : kind.scale.Amount → List ℕ) where
     -- the text is that of the row's total, if the row has one
     abbrev pub TotalOf : List (Link K) → List ℕ → List ℕ → Type 0
-    TotalOf links row text = AllPriced links row → text ≡ shown (sum_of s (map (weight_of s amount links) row))
+    TotalOf links row text = AllPriced links row → text ≡ shown (sum_of kind.scale (map (weight_of kind links) row))
 
     -- the text for the total of each of so many rows: a dash where there is none, else the total of the walk's row
     abbrev pub EachOf : Walk K → ℕ → List ℕ → Type 0

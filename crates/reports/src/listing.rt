@@ -13,10 +13,10 @@ use weights::WeightKind;
 /// Pours rows as lines into the places, which have room for any line. Answers how many, the letter of the reason for
 /// which it ended, and how many places were used.
 fn fill<K: WeightKind>(walk: &mut Walk<K>, places: &mut [u8], limit: u32) -> (u32, char, usize)
-    requires begun { Begun K.WeightKind.scale K.WeightKind.amount walk.old }
+    requires begun { Begun K.WeightKind.weighing walk.old }
     requires room { 378 ≤ length places.old }
-    ensures fills { FillsPlaces K.WeightKind.scale K.WeightKind.amount walk.old walk.new limit result.0 result.1 (take result.2 places.new) }
-    ensures stays { Stays K.WeightKind.scale K.WeightKind.amount walk.old walk.new }
+    ensures fills { FillsPlaces K.WeightKind.weighing walk.old walk.new limit result.0 result.1 (take result.2 places.new) }
+    ensures stays { Stays K.WeightKind.weighing walk.old walk.new }
     ensures within { result.0 ≤ limit }
     ensures some { result.1 ≡ 70 → 0 < result.0 }
     ensures used { result.2 ≤ length places.new }
@@ -31,11 +31,11 @@ fn fill<K: WeightKind>(walk: &mut Walk<K>, places: &mut [u8], limit: u32) -> (u3
 /// Puts the lines of the first rows out, up to so many. When the places for lines are full they are put out and used
 /// again. Answers how many rows there were, and the letter of the reason for which it ended.
 fn list_rows<K: WeightKind, S: Sink>(walk: &mut Walk<K>, out: &mut S, limit: u32) -> (u32, char)
-    requires begun { Begun K.WeightKind.scale K.WeightKind.amount walk.old }
+    requires begun { Begun K.WeightKind.weighing walk.old }
     requires before { place_of walk.old ≡ None }
-    ensures lists { ListsRows K.WeightKind.scale K.WeightKind.amount walk.old walk.new S.Sink.took out.old out.new limit result.0 result.1 }
+    ensures lists { ListsRows K.WeightKind.weighing walk.old walk.new S.Sink.took out.old out.new limit result.0 result.1 }
     ensures within { result.0 ≤ limit }
-    ensures stays { Stays K.WeightKind.scale K.WeightKind.amount walk.old walk.new }
+    ensures stays { Stays K.WeightKind.weighing walk.old walk.new }
 {
     let mut places = [0; 4096];
     let mut count = 0;
@@ -52,9 +52,9 @@ fn list_rows<K: WeightKind, S: Sink>(walk: &mut Walk<K>, out: &mut S, limit: u32
 
 /// Whether a row follows; the walk then moves to it.
 fn follows<K: WeightKind>(walk: &mut Walk<K>) -> bool
-    requires begun { Begun K.WeightKind.scale K.WeightKind.amount walk.old }
-    ensures says { SaysFollows K.WeightKind.scale K.WeightKind.amount walk.old walk.new result }
-    ensures stays { Stays K.WeightKind.scale K.WeightKind.amount walk.old walk.new }
+    requires begun { Begun K.WeightKind.weighing walk.old }
+    ensures says { SaysFollows K.WeightKind.weighing walk.old walk.new result }
+    ensures stays { Stays K.WeightKind.weighing walk.old walk.new }
 {
     let mut list = [0; 64];
     walk.next(&mut list).is_ok()
@@ -63,9 +63,9 @@ fn follows<K: WeightKind>(walk: &mut Walk<K>) -> bool
 /// Puts the lines of the first thousand rows out. Answers how many rows there were, and the letter of the ending: `Z`,
 /// the sites are not joined; `X`, no row follows; `L`, a row follows. Where there are rows the walk is then on a row.
 pub(crate) fn list<K: WeightKind, S: Sink>(walk: &mut Walk<K>, out: &mut S) -> (u32, char)
-    requires begun { Begun K.WeightKind.scale K.WeightKind.amount walk.old }
+    requires begun { Begun K.WeightKind.weighing walk.old }
     requires before { place_of walk.old ≡ None }
-    ensures lists { ListsPrinted K.WeightKind.scale K.WeightKind.amount walk.old walk.new S.Sink.took out.old out.new result.0 result.1 }
+    ensures lists { ListsPrinted K.WeightKind.weighing walk.old walk.new S.Sink.took out.old out.new result.0 result.1 }
     ensures network { network_of walk.new ≡ network_of walk.old }
     ensures letter { result.1 < 128 }
 {

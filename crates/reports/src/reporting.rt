@@ -1,7 +1,7 @@
 //! The report of a sheet, put out part by part.
 
 ghost use Rattle.std.specs.Prelude.{◌≡◌, ℕ, ◌<◌, List, [], ◌∷◌, ◌++◌, length};
-ghost use Rattle.weights.specs.Amounts.{numbers, pairs};
+ghost use Rattle.weights.specs.Weighings.{by_metres, by_crossings, paired};
 ghost use Rattle.networks.specs.Networks.{sites_of, links_of};
 ghost use Rattle.reports.specs.Answers.{kind_of, line_of_answer};
 ghost use Rattle.reports.specs.Listing.{last_line, metres_text, crossings_text};
@@ -68,7 +68,7 @@ fn report_crossings<S: Sink>(sheet: &[u8], out: &mut S)
 
 /// Puts the report of a network with metres out.
 fn list_metres<S: Sink>(network: Network<Metres>, out: &mut S)
-    ensures { PutsNetwork numbers (λ w. w.0) metres_text S.Sink.took network out.old out.new }
+    ensures { PutsNetwork by_metres metres_text S.Sink.took network out.old out.new }
 {
     put_answer(out, sound(&network));
     let mut walk = Walk::begin(network);
@@ -79,7 +79,7 @@ fn list_metres<S: Sink>(network: Network<Metres>, out: &mut S)
 
 /// Puts the report of a network with crossings and metres out.
 fn list_crossings<S: Sink>(network: Network<Pair<Crossings, Metres>>, out: &mut S)
-    ensures { PutsNetwork (pairs numbers numbers) (λ w. (w.first.0, w.second.0)) crossings_text S.Sink.took network out.old out.new }
+    ensures { PutsNetwork (paired by_crossings by_metres) crossings_text S.Sink.took network out.old out.new }
 {
     put_answer(out, sound(&network));
     let mut walk = Walk::begin(network);

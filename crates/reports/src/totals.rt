@@ -1,7 +1,7 @@
 //! The total of each row, in the form in which it is printed.
 
 ghost use Rattle.std.specs.Prelude.{decimal};
-ghost use Rattle.weights.specs.Amounts.{numbers, pairs};
+ghost use Rattle.weights.specs.Weighings.{by_metres, by_crossings, paired};
 ghost use Rattle.reports.specs.Listing.{metres_text, crossings_text};
 ghost use Rattle.reports.specs.Sinks.{PutOut};
 ghost use Rattle.reports.specs.Totals.{total_text, TotalOf, EachOf};
@@ -15,7 +15,7 @@ use weights::{Crossings, Metres, Pair};
 
 /// The total of a row's metres.
 fn metres_total(links: &[Link<Metres>], row: &[u16]) -> Total
-    ensures { TotalOf numbers (λ w. w.0) metres_text links.now row.now (total_text result) }
+    ensures { TotalOf by_metres metres_text links.now row.now (total_text result) }
 {
     match price(links, row) {
         Ok(total) => Total::Metres(total.metres()),
@@ -25,7 +25,7 @@ fn metres_total(links: &[Link<Metres>], row: &[u16]) -> Total
 
 /// The total of a row's crossings and metres.
 fn crossings_total(links: &[Link<Pair<Crossings, Metres>>], row: &[u16]) -> Total
-    ensures { TotalOf (pairs numbers numbers) (λ w. (w.first.0, w.second.0)) crossings_text links.now row.now (total_text result) }
+    ensures { TotalOf (paired by_crossings by_metres) crossings_text links.now row.now (total_text result) }
 {
     match price(links, row) {
         Ok(total) => Total::CrossingsMetres(total.first().crossings(), total.second().metres()),
@@ -35,7 +35,7 @@ fn crossings_total(links: &[Link<Pair<Crossings, Metres>>], row: &[u16]) -> Tota
 
 /// The total of each of so many rows with metres, where the walk is on a row if there is one.
 pub(crate) fn metres_each(walk: &Walk<Metres>, count: u32) -> Total
-    ensures { EachOf numbers (λ w. w.0) metres_text walk.now count (total_text result) }
+    ensures { EachOf by_metres metres_text walk.now count (total_text result) }
 {
     if count == 0 {
         return Total::None;
@@ -45,7 +45,7 @@ pub(crate) fn metres_each(walk: &Walk<Metres>, count: u32) -> Total
 
 /// The same with crossings and metres.
 pub(crate) fn crossings_each(walk: &Walk<Pair<Crossings, Metres>>, count: u32) -> Total
-    ensures { EachOf (pairs numbers numbers) (λ w. (w.first.0, w.second.0)) crossings_text walk.now count (total_text result) }
+    ensures { EachOf (paired by_crossings by_metres) crossings_text walk.now count (total_text result) }
 {
     if count == 0 {
         return Total::None;

@@ -1,7 +1,7 @@
 -- Two runs on networks with the same links, whose weights compare alike, bring the same.
 use Rattle.std.proofs.Common.{◌≡◌, ℕ, ◌-◌, not, ◌&&◌, ltb, List, map, sym, ap, ◌∙◌, subst}
 use Rattle.forests.specs.Graphs.{Graph, Fits, SitesJoined}
-use Rattle.weights.specs.Scales.{Scale, Lawful}
+use Rattle.weights.specs.Scales.{Lawful, Weighing}
 use Rattle.cheapest.specs.Trees.{FullList}
 use Rattle.cheapest.proofs.SameRows.{same_rows}
 use Rattle.cheapest.proofs.Theorems.{one_list}
@@ -22,9 +22,9 @@ pub network_fits : {K : Type 0} (n : Network K) → Fits (network_graph n)
 network_fits n = record { from_fits = from_inside n.sites (links_of n) n.ends; to_fits = to_inside n.sites (links_of n) n.ends }
 
 -- a network has exactly one full list
-pub one_listed : {K : Type 0} (s : Scale) (laws : Lawful s) (amount : K → s.Amount) (n : Network K) → OneList s amount n
-one_listed s laws amount n =
-    let list = one_list s laws (network_graph n) (network_fits n) (weights_of s amount n) in
+pub one_listed : {K : Type 0} (kind : Weighing K) (laws : Lawful kind.scale) (n : Network K) → OneList kind n
+one_listed kind laws n =
+    let list = one_list kind.scale laws (network_graph n) (network_fits n) (weights_of kind n) in
     record { full = list.0; listed = list.1; only = list.2 }
 
 -- networks with the same links have one graph
@@ -38,19 +38,19 @@ one_graph n n' same =
       usable = λ e. ltb e (same.links i) && not (same.closed e i);
     }
 
-module _ {K K' : Type 0} (s s' : Scale) (laws : Lawful s) (laws' : Lawful s') (amount : K → s.Amount) (amount' : K' → s'.Amount)
-    (n : Network K) (n' : Network K') (same : SameLinks n n') (alike : WeighAlike s s' amount amount' n n') where
+module _ {K K' : Type 0} (kind : Weighing K) (kind' : Weighing K') (laws : Lawful kind.scale) (laws' : Lawful kind'.scale)
+    (n : Network K) (n' : Network K') (same : SameLinks n n') (alike : WeighAlike kind kind' n n') where
   -- they have one full list
-  pub one_full : (L L' : List (List ℕ)) → Listed s amount n L → Listed s' amount' n' L' → L' ≡ L
+  pub one_full : (L L' : List (List ℕ)) → Listed kind n L → Listed kind' n' L' → L' ≡ L
   one_full L L' full full' =
-      let w = weights_of s amount n in
-      let w' = weights_of s' amount' n' in
-      let there : FullList (network_graph n) s' w' L = ((same_rows s s' laws laws' (network_graph n) (network_fits n) w w' alike).1 L).0 full in
-      let list = one_list s' laws' (network_graph n') (network_fits n') w' in
-      list.2 L' full' ∙ sym (list.2 L (subst (λ (g : Graph). FullList g s' w' L) (one_graph n n' same) there))
+      let w = weights_of kind n in
+      let w' = weights_of kind' n' in
+      let there : FullList (network_graph n) kind'.scale w' L = ((same_rows kind.scale kind'.scale laws laws' (network_graph n) (network_fits n) w w' alike).1 L).0 full in
+      let list = one_list kind'.scale laws' (network_graph n') (network_fits n') w' in
+      list.2 L' full' ∙ sym (list.2 L (subst (λ (g : Graph). FullList g kind'.scale w' L) (one_graph n n' same) there))
 
   pub same_run : (rule rule' : Rule) (held held₁ held' held₁' : List ℕ) (turns turns₁ others others₁ : List Turn)
-      → Promised s amount n rule held held₁ turns turns₁ → Promised s' amount' n' rule' held' held₁' others others₁
+      → Promised kind n rule held held₁ turns turns₁ → Promised kind' n' rule' held' held₁' others others₁
       → rule ≡ rule' → held ≡ held' → asked turns ≡ asked others → SameRun turns₁ others₁ held₁ held₁'
   same_run rule rule' held held₁ held' held₁' turns turns₁ others others₁ p p' same-rule same-held same_asked =
       let L = p.full in
@@ -62,7 +62,7 @@ module _ {K K' : Type 0} (s s' : Scale) (laws : Lawful s) (laws' : Lawful s') (a
       (subst (λ (size : ℕ). Kept L size (SitesJoined (network_graph n')) rule' held' p'.events held₁') (ap (λ (m : ℕ). m - 1) (sym same.sites))
       (subst (λ (xs : List (List ℕ)). Kept xs (row_size n') (SitesJoined (network_graph n')) rule' held' p'.events held₁') (one_full L p'.full p.listed p'.listed) p'.kept))) in
       let (events, holding) = kept_same L (row_size n) rule (listed_once _ _ L p.listed) (SitesJoined g) (SitesJoined (network_graph n'))
-      (subst (λ (h : Graph). SitesJoined h) graph) (subst (λ (h : Graph). SitesJoined h) (sym graph)) (not_joined_empty g s (weights_of s amount n) L p.listed) held
+      (subst (λ (h : Graph). SitesJoined h) graph) (subst (λ (h : Graph). SitesJoined h) (sym graph)) (not_joined_empty g kind.scale (weights_of kind n) L p.listed) held
       held₁ held₁' p.events p'.events p.kept kept' (sym p.told.asks ∙ same_asked ∙ p'.told.asks) in
       record {
         lists = p.told.leaves ∙ ap (map left_by) events ∙ sym p'.told.leaves;

@@ -3,7 +3,7 @@ use Rattle.std.proofs.Common.{◌≡◌, ℕ, ◌+◌, ◌<◌, List, [], ◌∷
 use mathlib.Core.List.{map-append}
 use Rattle.std.proofs.lemmas.List.{drop-drop, take_all, take_more, take_more_set, drop-set-lt, get_or-drop, length-drop}
 use Rattle.forests.specs.Graphs.{SitesJoined}
-use Rattle.weights.specs.Scales.{Scale, Lawful}
+use Rattle.weights.specs.Scales.{Lawful, Weighing}
 use Rattle.networks.specs.Networks.{network_graph, weights_of}
 use Rattle.networks.specs.declared.networks.Network.{Network}
 use Rattle.receivers.specs.Rules.{Rule}
@@ -24,11 +24,11 @@ use Rattle.walks.proofs.Runs.{kept_none, kept_push}
 
 -- After the first i turns of `turns₀`, now `turns`, the walk that began as walk₀ is `walk`, and the receiver, which
 -- held `held₀`, holds `held`.
-pub record Ran {K : Type 0} (s : Scale) (amount : K → s.Amount) (walk₀ walk : Walk K) (rule : Rule) (held₀ held : List ℕ) (turns₀ turns : List Turn) (i : ℕ) : Type 0 where
+pub record Ran {K : Type 0} (kind : Weighing K) (walk₀ walk : Walk K) (rule : Rule) (held₀ held : List ℕ) (turns₀ turns : List Turn) (i : ℕ) : Type 0 where
   pub network : network_of walk ≡ network_of walk₀
-  pub begun : Begun s amount walk
+  pub begun : Begun kind walk
   pub rest : drop i turns ≡ drop i turns₀
-  pub so_far : (L : List (List ℕ)) → Listed s amount (network_of walk₀) L
+  pub so_far : (L : List (List ℕ)) → Listed kind (network_of walk₀) L
       → (events : List Event) × Told events (take i turns₀) (take i turns)
       × Kept L (row_size (network_of walk₀)) (SitesJoined (network_graph (network_of walk₀))) rule held₀ events held × (place_of walk ≡ latest events)
 
@@ -53,8 +53,8 @@ told_more events e turns₀ turns i d t inside rest a l h told =
           ∙ ap (λ x. map heard_of events ++ (x ∷ [])) h ∙ sym (map-append heard_of events (e ∷ []));
     }
 
-module _ {K : Type 0} (s : Scale) (laws : Lawful s) (amount : K → s.Amount) (walk₀ : Walk K) (rule : Rule) (held₀ : List ℕ) (turns₀ : List Turn) where
-  pub ran_none : Begun s amount walk₀ → place_of walk₀ ≡ None → Ran s amount walk₀ walk₀ rule held₀ held₀ turns₀ turns₀ 0
+module _ {K : Type 0} (kind : Weighing K) (laws : Lawful kind.scale) (walk₀ : Walk K) (rule : Rule) (held₀ : List ℕ) (turns₀ : List Turn) where
+  pub ran_none : Begun kind walk₀ → place_of walk₀ ≡ None → Ran kind walk₀ walk₀ rule held₀ held₀ turns₀ turns₀ 0
   ran_none begun before = record {
     network = refl;
     begun = begun;
@@ -63,9 +63,9 @@ module _ {K : Type 0} (s : Scale) (laws : Lawful s) (amount : K → s.Amount) (w
   }
 
   pub ran_more : (walk walk' : Walk K) (rule' : Rule) (held held' : List ℕ) (turns : List Turn) (i : ℕ) (d t : Turn) → i < length turns
-      → Ran s amount walk₀ walk rule held₀ held turns₀ turns i → rule' ≡ rule
-      → Performs s amount walk walk' rule' held held' (asked_by (get_or turns i d).call) (asked_by t.call) (heard_from t.answer)
-      → Stays s amount walk walk' → Ran s amount walk₀ walk' rule held₀ held' turns₀ (set turns i t) (i + 1)
+      → Ran kind walk₀ walk rule held₀ held turns₀ turns i → rule' ≡ rule
+      → Performs kind walk walk' rule' held held' (asked_by (get_or turns i d).call) (asked_by t.call) (heard_from t.answer)
+      → Stays kind walk walk' → Ran kind walk₀ walk' rule held₀ held' turns₀ (set turns i t) (i + 1)
   ran_more walk walk' rule' held held' turns i d t inside ran same performs stays = record {
     network = stays.network ∙ ran.network;
     begun = stays.begun ran.begun;
@@ -73,7 +73,7 @@ module _ {K : Type 0} (s : Scale) (laws : Lawful s) (amount : K → s.Amount) (w
         ∙ (sym (drop-drop 1 i turns) ∙ ap (drop 1) ran.rest ∙ drop-drop 1 i turns₀);
     so_far = λ L full.
         let (events, told, kept, place) = ran.so_far L full in
-        let (e, a, l, h, step) = performs ran.begun L (subst (λ (n : Network K). Listed s amount n L) (sym ran.network) full) in
+        let (e, a, l, h, step) = performs ran.begun L (subst (λ (n : Network K). Listed kind n L) (sym ran.network) full) in
         let step₀ : Step L (row_size (network_of walk₀)) (SitesJoined (network_graph (network_of walk₀))) rule (latest events) held e (place_of walk') held' =
         subst (λ (o : Option (List ℕ)). Step L (row_size (network_of walk₀)) (SitesJoined (network_graph (network_of walk₀))) rule o held e (place_of walk') held') place
         (subst (λ (ρ : Rule). Step L (row_size (network_of walk₀)) (SitesJoined (network_graph (network_of walk₀))) ρ (place_of walk) held e (place_of walk') held') same
@@ -83,10 +83,10 @@ module _ {K : Type 0} (s : Scale) (laws : Lawful s) (amount : K → s.Amount) (w
   }
 
   -- The full list exists, and all turns were performed.
-  pub ran_all : (walk : Walk K) (held : List ℕ) (turns : List Turn) → Begun s amount walk₀ → length turns ≡ length turns₀
-      → Ran s amount walk₀ walk rule held₀ held turns₀ turns (length turns₀) → Performed s amount (network_of walk₀) walk rule held₀ held turns₀ turns
+  pub ran_all : (walk : Walk K) (held : List ℕ) (turns : List Turn) → Begun kind walk₀ → length turns ≡ length turns₀
+      → Ran kind walk₀ walk rule held₀ held turns₀ turns (length turns₀) → Performed kind (network_of walk₀) walk rule held₀ held turns₀ turns
   ran_all walk held turns begun same ran =
-      let list = one_list s laws (network_graph (network_of walk₀)) (graph_fits s laws amount walk₀ begun) (weights_of s amount (network_of walk₀)) in
+      let list = one_list kind.scale laws (network_graph (network_of walk₀)) (graph_fits kind laws walk₀ begun) (weights_of kind (network_of walk₀)) in
       let (events, told, kept, place) = ran.so_far list.0 list.1 in
       record {
         promised = record {

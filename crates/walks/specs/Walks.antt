@@ -1,7 +1,7 @@
 -- Where a walk stands, and what it has to do with the weights of its network.
 use Rattle.std.specs.Prelude.{◌≡◌, ℕ, ◌-◌, cond, List, [], length, Some, None, Option}
 use Rattle.weights.specs.Amounts.{numbers}
-use Rattle.weights.specs.Scales.{Scale}
+use Rattle.weights.specs.Scales.{Weighing}
 use Rattle.cheapest.specs.Plans.{graph_of, mark_of}
 use Rattle.cheapest.specs.Positions.{plan_of, is_on, row_of}
 use Rattle.cheapest.specs.Ranks.{Alike}
@@ -39,17 +39,17 @@ module _ {K : Type 0} where
   row_size n = sites_of n - 1
 
   -- L is the full list of the network.
-  abbrev pub Listed : (s : Scale) → (K → s.Amount) → Network K → List (List ℕ) → Type 0
-  Listed s amount n L = FullList (network_graph n) s (weights_of s amount n) L
+  abbrev pub Listed : (kind : Weighing K) → Network K → List (List ℕ) → Type 0
+  Listed kind n L = FullList (network_graph n) kind.scale (weights_of kind n) L
 
 -- The network has exactly one full list.
-pub record OneList {K : Type 0} (s : Scale) (amount : K → s.Amount) (n : Network K) : Type 0 where
+pub record OneList {K : Type 0} (kind : Weighing K) (n : Network K) : Type 0 where
   pub full : List (List ℕ)
-  pub listed : Listed s amount n full
-  pub only : (L : List (List ℕ)) → Listed s amount n L → L ≡ full
+  pub listed : Listed kind n full
+  pub only : (L : List (List ℕ)) → Listed kind n L → L ≡ full
 
 -- The walk was begun on its network: it compares links as the network's weights do. Begin gives this and
 -- every call keeps it, so it holds of every walk.
-pub record Begun {K : Type 0} (s : Scale) (amount : K → s.Amount) (walk : Walk K) : Type 0 where
+pub record Begun {K : Type 0} (kind : Weighing K) (walk : Walk K) : Type 0 where
   pub graph : graph_of (plan_of walk.rows) ≡ network_graph (network_of walk)
-  pub alike : Alike numbers s (mark_of (plan_of walk.rows)) (weights_of s amount (network_of walk)) (length (links_of (network_of walk)))
+  pub alike : Alike numbers kind.scale (mark_of (plan_of walk.rows)) (weights_of kind (network_of walk)) (length (links_of (network_of walk)))

@@ -26,8 +26,8 @@ fn answer_of(res: Result<(), Refusal>) -> Answer
 
 /// Performs one call.
 fn act<K: WeightKind, R: Receiver>(walk: &mut Walk<K>, receiver: &mut R, call: &mut Call) -> Answer
-    ensures performs { Performs K.WeightKind.scale K.WeightKind.amount walk.old walk.new (R.Receiver.rule receiver.old) (R.Receiver.held receiver.old) (R.Receiver.held receiver.new) (asked_by call.old) (asked_by call.new) (heard_from result) }
-    ensures stays { Stays K.WeightKind.scale K.WeightKind.amount walk.old walk.new }
+    ensures performs { Performs K.WeightKind.weighing walk.old walk.new (R.Receiver.rule receiver.old) (R.Receiver.held receiver.old) (R.Receiver.held receiver.new) (asked_by call.old) (asked_by call.new) (heard_from result) }
+    ensures stays { Stays K.WeightKind.weighing walk.old walk.new }
     ensures rule { R.Receiver.rule receiver.new ≡ R.Receiver.rule receiver.old }
     ensures spare { EndOf (R.Receiver.spare receiver.old) (R.Receiver.spare receiver.new) }
     ensures lender { R.Receiver.lender receiver.new ≡ R.Receiver.lender receiver.old }
@@ -44,9 +44,9 @@ fn act<K: WeightKind, R: Receiver>(walk: &mut Walk<K>, receiver: &mut R, call: &
 
 /// Performs the calls of all turns, in their order, on a walk just begun.
 fn act_all<K: WeightKind, R: Receiver>(walk: &mut Walk<K>, receiver: &mut R, turns: &mut [Turn])
-    requires begun { Begun K.WeightKind.scale K.WeightKind.amount walk.old }
+    requires begun { Begun K.WeightKind.weighing walk.old }
     requires before { place_of walk.old ≡ None }
-    ensures promise { Performed K.WeightKind.scale K.WeightKind.amount (network_of walk.old) walk.new (R.Receiver.rule receiver.old) (R.Receiver.held receiver.old) (R.Receiver.held receiver.new) turns.old turns.new }
+    ensures promise { Performed K.WeightKind.weighing (network_of walk.old) walk.new (R.Receiver.rule receiver.old) (R.Receiver.held receiver.old) (R.Receiver.held receiver.new) turns.old turns.new }
     ensures rule { R.Receiver.rule receiver.new ≡ R.Receiver.rule receiver.old }
     ensures spare { EndOf (R.Receiver.spare receiver.old) (R.Receiver.spare receiver.new) }
     ensures lender { R.Receiver.lender receiver.new ≡ R.Receiver.lender receiver.old }
@@ -64,7 +64,7 @@ pub fn perform<K: WeightKind, R: Receiver>(
     receiver: &mut R,
     turns: &mut [Turn],
 ) -> Walk<K>
-    ensures promise { Performed K.WeightKind.scale K.WeightKind.amount network result (R.Receiver.rule receiver.old) (R.Receiver.held receiver.old) (R.Receiver.held receiver.new) turns.old turns.new }
+    ensures promise { Performed K.WeightKind.weighing network result (R.Receiver.rule receiver.old) (R.Receiver.held receiver.old) (R.Receiver.held receiver.new) turns.old turns.new }
     ensures rule { R.Receiver.rule receiver.new ≡ R.Receiver.rule receiver.old }
     ensures spare { EndOf (R.Receiver.spare receiver.old) (R.Receiver.spare receiver.new) }
     ensures lender { R.Receiver.lender receiver.new ≡ R.Receiver.lender receiver.old }
@@ -83,9 +83,9 @@ fn run_both<K: WeightKind, M: WeightKind, R: Receiver, S: Receiver>(
     turns: &mut [Turn],
     others: &mut [Turn],
 ) -> (Walk<K>, Walk<M>)
-    ensures alike { SameLinks first second → WeighAlike K.WeightKind.scale M.WeightKind.scale K.WeightKind.amount M.WeightKind.amount first second → R.Receiver.rule receiver.old ≡ S.Receiver.rule other.old → R.Receiver.held receiver.old ≡ S.Receiver.held other.old → asked turns.old ≡ asked others.old → SameRun turns.new others.new (R.Receiver.held receiver.new) (S.Receiver.held other.new) }
-    ensures promise { Performed K.WeightKind.scale K.WeightKind.amount first result.0 (R.Receiver.rule receiver.old) (R.Receiver.held receiver.old) (R.Receiver.held receiver.new) turns.old turns.new }
-    ensures others { Performed M.WeightKind.scale M.WeightKind.amount second result.1 (S.Receiver.rule other.old) (S.Receiver.held other.old) (S.Receiver.held other.new) others.old others.new }
+    ensures alike { SameLinks first second → WeighAlike K.WeightKind.weighing M.WeightKind.weighing first second → R.Receiver.rule receiver.old ≡ S.Receiver.rule other.old → R.Receiver.held receiver.old ≡ S.Receiver.held other.old → asked turns.old ≡ asked others.old → SameRun turns.new others.new (R.Receiver.held receiver.new) (S.Receiver.held other.new) }
+    ensures promise { Performed K.WeightKind.weighing first result.0 (R.Receiver.rule receiver.old) (R.Receiver.held receiver.old) (R.Receiver.held receiver.new) turns.old turns.new }
+    ensures others { Performed M.WeightKind.weighing second result.1 (S.Receiver.rule other.old) (S.Receiver.held other.old) (S.Receiver.held other.new) others.old others.new }
     ensures rule { R.Receiver.rule receiver.new ≡ R.Receiver.rule receiver.old }
     ensures spare { EndOf (R.Receiver.spare receiver.old) (R.Receiver.spare receiver.new) }
     ensures lender { R.Receiver.lender receiver.new ≡ R.Receiver.lender receiver.old }
@@ -109,9 +109,9 @@ pub fn perform_both<K: WeightKind, M: WeightKind, R: Receiver, S: Receiver>(
     turns: &mut [Turn],
     others: &mut [Turn],
 ) -> (Walk<K>, Walk<M>)
-    ensures alike { SameLinks first second → WeighAlike K.WeightKind.scale M.WeightKind.scale K.WeightKind.amount M.WeightKind.amount first second → R.Receiver.rule receiver.old ≡ S.Receiver.rule other.old → R.Receiver.held receiver.old ≡ S.Receiver.held other.old → asked turns.old ≡ asked others.old → SameRun turns.new others.new (R.Receiver.held receiver.new) (S.Receiver.held other.new) }
-    ensures promise { Performed K.WeightKind.scale K.WeightKind.amount first result.0 (R.Receiver.rule receiver.old) (R.Receiver.held receiver.old) (R.Receiver.held receiver.new) turns.old turns.new }
-    ensures others { Performed M.WeightKind.scale M.WeightKind.amount second result.1 (S.Receiver.rule other.old) (S.Receiver.held other.old) (S.Receiver.held other.new) others.old others.new }
+    ensures alike { SameLinks first second → WeighAlike K.WeightKind.weighing M.WeightKind.weighing first second → R.Receiver.rule receiver.old ≡ S.Receiver.rule other.old → R.Receiver.held receiver.old ≡ S.Receiver.held other.old → asked turns.old ≡ asked others.old → SameRun turns.new others.new (R.Receiver.held receiver.new) (S.Receiver.held other.new) }
+    ensures promise { Performed K.WeightKind.weighing first result.0 (R.Receiver.rule receiver.old) (R.Receiver.held receiver.old) (R.Receiver.held receiver.new) turns.old turns.new }
+    ensures others { Performed M.WeightKind.weighing second result.1 (S.Receiver.rule other.old) (S.Receiver.held other.old) (S.Receiver.held other.new) others.old others.new }
     ensures rule { R.Receiver.rule receiver.new ≡ R.Receiver.rule receiver.old }
     ensures spare { EndOf (R.Receiver.spare receiver.old) (R.Receiver.spare receiver.new) }
     ensures lender { R.Receiver.lender receiver.new ≡ R.Receiver.lender receiver.old }

@@ -46,7 +46,7 @@ impl<K: WeightKind> Walk<K> {
     fn stand_in(&self, link: u16) -> Option<u16>
         requires on { is_on self.now.rows ≡ true }
         requires inside { In link (row_at (place_of self.now)) }
-        ensures { Begun K.WeightKind.scale K.WeightKind.amount self.now → Answers (network_graph (network_of self.now)) K.WeightKind.scale (weights_of K.WeightKind.scale K.WeightKind.amount (network_of self.now)) (row_at (place_of self.now)) link result }
+        ensures { Begun K.WeightKind.weighing self.now → Answers (network_graph (network_of self.now)) K.WeightKind.weighing.scale (weights_of K.WeightKind.weighing (network_of self.now)) (row_at (place_of self.now)) link result }
     {
         self.rows.substitute(link)
     }
@@ -55,7 +55,7 @@ impl<K: WeightKind> Walk<K> {
     /// cheapest tree; or none if there is no such link. The cost is one run over the links.
     pub fn substitute(&self, link: u16) -> Result<Option<u16>, Refusal>
         ensures refuses { AskedFor (place_of self.now) link (refusal_of result) }
-        ensures answers { IfOk result (λ answer. Begun K.WeightKind.scale K.WeightKind.amount self.now → Answers (network_graph (network_of self.now)) K.WeightKind.scale (weights_of K.WeightKind.scale K.WeightKind.amount (network_of self.now)) (row_at (place_of self.now)) link answer) }
+        ensures answers { IfOk result (λ answer. Begun K.WeightKind.weighing self.now → Answers (network_graph (network_of self.now)) K.WeightKind.weighing.scale (weights_of K.WeightKind.weighing (network_of self.now)) (row_at (place_of self.now)) link answer) }
     {
         match check_link(&self.rows, link) {
             Ok(()) => Ok(self.stand_in(link)),

@@ -24,8 +24,8 @@ pub(crate) fn rows_of<K: WeightKind>(network: &Network<K>) -> Rows
     ensures before { place_in result ≡ None }
     ensures sites { (plan_of result).sites ≡ sites_of network.now }
     ensures graph { graph_of (plan_of result) ≡ network_graph network.now }
-    ensures listed { OneList K.WeightKind.scale K.WeightKind.amount network.now }
-    ensures alike { Alike numbers K.WeightKind.scale (mark_of (plan_of result)) (weights_of K.WeightKind.scale K.WeightKind.amount network.now) (length (links_of network.now)) }
+    ensures listed { OneList K.WeightKind.weighing network.now }
+    ensures alike { Alike numbers K.WeightKind.weighing.scale (mark_of (plan_of result)) (weights_of K.WeightKind.weighing network.now) (length (links_of network.now)) }
 {
     Rows::new(network.plan())
 }
@@ -34,24 +34,24 @@ impl<K: WeightKind> Walk<K> {
     /// Next on a list that has room for a row.
     pub(crate) fn next_into(&mut self, list: &mut [u16]) -> Result<(), Refusal>
         requires { sites_of (network_of self.old) ≤ length list.old + 1 }
-        ensures acts { NextActs K.WeightKind.scale K.WeightKind.amount self.old self.new list.old list.new (refusal_of result) }
-        ensures stays { Stays K.WeightKind.scale K.WeightKind.amount self.old self.new }
+        ensures acts { NextActs K.WeightKind.weighing self.old self.new list.old list.new (refusal_of result) }
+        ensures stays { Stays K.WeightKind.weighing self.old self.new }
     {
         next_row(&mut self.rows, list)
     }
 
     /// Seek.
     pub(crate) fn move_to(&mut self, row: &[u16]) -> Result<(), Refusal>
-        ensures acts { SeekActs K.WeightKind.scale K.WeightKind.amount self.old self.new row.now (refusal_of result) }
-        ensures stays { Stays K.WeightKind.scale K.WeightKind.amount self.old self.new }
+        ensures acts { SeekActs K.WeightKind.weighing self.old self.new row.now (refusal_of result) }
+        ensures stays { Stays K.WeightKind.weighing self.old self.new }
     {
         seek_row(&mut self.rows, row)
     }
 
     /// Pour.
     pub(crate) fn pour_into<R: Receiver>(&mut self, receiver: &mut R, limit: u32) -> (u32, char)
-        ensures acts { PourActs K.WeightKind.scale K.WeightKind.amount self.old self.new (R.Receiver.rule receiver.old) (R.Receiver.held receiver.old) limit result.0 result.1 (R.Receiver.held receiver.new) }
-        ensures stays { Stays K.WeightKind.scale K.WeightKind.amount self.old self.new }
+        ensures acts { PourActs K.WeightKind.weighing self.old self.new (R.Receiver.rule receiver.old) (R.Receiver.held receiver.old) limit result.0 result.1 (R.Receiver.held receiver.new) }
+        ensures stays { Stays K.WeightKind.weighing self.old self.new }
         ensures rule { R.Receiver.rule receiver.new ≡ R.Receiver.rule receiver.old }
         ensures spare { EndOf (R.Receiver.spare receiver.old) (R.Receiver.spare receiver.new) }
         ensures lender { R.Receiver.lender receiver.new ≡ R.Receiver.lender receiver.old }

@@ -35,8 +35,8 @@ impl<K: WeightKind> Walk<K> {
     pub fn begin(network: Network<K>) -> Walk<K>
         ensures network { network_of result ≡ network }
         ensures before { place_of result ≡ None }
-        ensures begun { Begun K.WeightKind.scale K.WeightKind.amount result }
-        ensures listed { OneList K.WeightKind.scale K.WeightKind.amount network }
+        ensures begun { Begun K.WeightKind.weighing result }
+        ensures listed { OneList K.WeightKind.weighing network }
     {
         let rows = rows_of(&network);
         Walk { network, rows }
@@ -68,8 +68,8 @@ impl<K: WeightKind> Walk<K> {
     /// stays as it is. A refusal alters neither walk nor list. The cost is one run over the links for each
     /// place that is tried, and does not grow with the rows given before.
     pub fn next(&mut self, list: &mut [u16]) -> Result<(), Refusal>
-        ensures acts { NextActs K.WeightKind.scale K.WeightKind.amount self.old self.new list.old list.new (refusal_of result) }
-        ensures stays { Stays K.WeightKind.scale K.WeightKind.amount self.old self.new }
+        ensures acts { NextActs K.WeightKind.weighing self.old self.new list.old list.new (refusal_of result) }
+        ensures stays { Stays K.WeightKind.weighing self.old self.new }
     {
         let places = list.len();
         if places < self.network.sites() as usize - 1 {
@@ -80,8 +80,8 @@ impl<K: WeightKind> Walk<K> {
 
     /// Moves to the row, if it is in the full list; a refusal leaves the walk where it is.
     pub fn seek(&mut self, row: &[u16]) -> Result<(), Refusal>
-        ensures acts { SeekActs K.WeightKind.scale K.WeightKind.amount self.old self.new row.now (refusal_of result) }
-        ensures stays { Stays K.WeightKind.scale K.WeightKind.amount self.old self.new }
+        ensures acts { SeekActs K.WeightKind.weighing self.old self.new row.now (refusal_of result) }
+        ensures stays { Stays K.WeightKind.weighing self.old self.new }
     {
         self.move_to(row)
     }
@@ -91,8 +91,8 @@ impl<K: WeightKind> Walk<K> {
     /// tried in this order: `L`, so many rows were taken; `Z`, the sites are not joined; `X`, no row follows; `F`,
     /// the receiver does not take the row.
     pub fn pour<R: Receiver>(&mut self, receiver: &mut R, limit: u32) -> (u32, char)
-        ensures acts { PourActs K.WeightKind.scale K.WeightKind.amount self.old self.new (R.Receiver.rule receiver.old) (R.Receiver.held receiver.old) limit result.0 result.1 (R.Receiver.held receiver.new) }
-        ensures stays { Stays K.WeightKind.scale K.WeightKind.amount self.old self.new }
+        ensures acts { PourActs K.WeightKind.weighing self.old self.new (R.Receiver.rule receiver.old) (R.Receiver.held receiver.old) limit result.0 result.1 (R.Receiver.held receiver.new) }
+        ensures stays { Stays K.WeightKind.weighing self.old self.new }
         ensures rule { R.Receiver.rule receiver.new ≡ R.Receiver.rule receiver.old }
         ensures spare { EndOf (R.Receiver.spare receiver.old) (R.Receiver.spare receiver.new) }
         ensures lender { R.Receiver.lender receiver.new ≡ R.Receiver.lender receiver.old }

@@ -1,5 +1,5 @@
 -- Sums of amounts, one more at a time.
-use Rattle.std.proofs.Common.{◌≡◌, List, [], ◌∷◌, ◌++◌, sym, refl, ap, ◌∙◌}
+use Rattle.std.proofs.Common.{◌≡◌, List, [], ◌∷◌, ◌++◌, sym, ap, ◌∙◌}
 use Rattle.weights.specs.Scales.{Scale, Lawful, sum_of}
 
 module _ (s : Scale) (laws : Lawful s) where

@@ -1,5 +1,5 @@
 -- The two scales that weights are measured on: natural numbers, and pairs of amounts.
-use Rattle.std.specs.Prelude.{ℕ, ◌+◌, Bool, cond, ◌&&◌, nat_le}
+use Rattle.std.specs.Prelude.{ℕ, ◌+◌, cond, ◌&&◌, nat_le}
 use Rattle.weights.specs.Scales.{Scale}
 
 -- numbers, by size

@@ -2,3 +2,4 @@ pub mod Scales
 pub mod Amounts
 pub mod PairLaws
 pub mod Linear
+pub mod Weighings

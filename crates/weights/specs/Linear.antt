@@ -1,5 +1,5 @@
 -- What a lawful scale gives: every amount is at most itself, and what is not at most is more.
-use Rattle.std.specs.Prelude.{◌≡◌, Bool, true, false, ◌⊎◌, ◌≢◌}
+use Rattle.std.specs.Prelude.{◌≡◌, Bool, true, false, ◌≢◌}
 use Rattle.std.proofs.Common.{subst, ⊎_elim}
 use Rattle.std.proofs.lemmas.Bool.{both_ways}
 use Rattle.weights.specs.Scales.{Scale, Lawful}

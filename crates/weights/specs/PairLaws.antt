@@ -2,7 +2,7 @@
 -- A comparison of pairs is one of three: the first sides are equal and the second decide, or the first are less, or
 -- they are more. Each law is proved by these cases.
 use Rattle.std.specs.Prelude.{◌≡◌, Bool, true, false, cond, ◌&&◌, ◌⊎◌, refl}
-use Rattle.std.proofs.Common.{sym, ap, subst, ◌∙◌, inl, inr, ⊎_elim}
+use Rattle.std.proofs.Common.{sym, ap, ◌∙◌, inl, inr, ⊎_elim}
 use Rattle.std.proofs.lemmas.Bool.{both_ways, cases_Bool}
 use Rattle.weights.specs.Scales.{Scale, Lawful}
 use Rattle.weights.specs.Amounts.{pairs}

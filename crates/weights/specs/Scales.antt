@@ -8,6 +8,11 @@ pub record Scale : Type 1 where
   pub add : Amount → Amount → Amount
   pub le : Amount → Amount → Bool
 
+-- what the weights of a kind mean: each has an amount on the kind's scale
+pub record Weighing (W : Type 0) : Type 1 where
+  pub scale : Scale
+  pub amount : W → scale.Amount
+
 -- a linear order, and an addition in any order and bracketing that keeps it strictly
 pub record Lawful (s : Scale) : Type 0 where
   -- of two amounts one is at most the other

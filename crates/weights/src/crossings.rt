@@ -1,7 +1,7 @@
 //! Street crossings: 16-bit numbers with a 32-bit total.
 
 ghost use Rattle.std.specs.Prelude.{◌≡◌, ℕ, ◌*◌, ◌≤◌};
-ghost use Rattle.weights.specs.Amounts.{numbers};
+ghost use Rattle.weights.specs.Weighings.{by_crossings};
 ghost use Rattle.std.proofs.Common.{rules};
 
 use crate::kinds::WeightKind;
@@ -29,9 +29,7 @@ impl CrossingsTotal {
 }
 
 impl WeightKind for Crossings {
-    ghost scale = { numbers };
-
-    ghost amount = { λ w. w.0 };
+    ghost weighing = { by_crossings };
 
     type Total = CrossingsTotal;
 

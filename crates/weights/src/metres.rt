@@ -1,7 +1,7 @@
 //! Metres of trench: 32-bit numbers with a 64-bit total.
 
 ghost use Rattle.std.specs.Prelude.{◌≡◌, ℕ, ◌*◌, ◌≤◌};
-ghost use Rattle.weights.specs.Amounts.{numbers};
+ghost use Rattle.weights.specs.Weighings.{by_metres};
 ghost use Rattle.std.proofs.Common.{rules};
 
 use crate::kinds::WeightKind;
@@ -29,9 +29,7 @@ impl MetresTotal {
 }
 
 impl WeightKind for Metres {
-    ghost scale = { numbers };
-
-    ghost amount = { λ w. w.0 };
+    ghost weighing = { by_metres };
 
     type Total = MetresTotal;
 

@@ -1,8 +1,8 @@
 //! The pair of any two weight kinds: the first side decides, and the second where the first sides are equal.
 
 ghost use Rattle.std.specs.Prelude.{◌≡◌, max};
-ghost use Rattle.weights.specs.Amounts.{pairs};
 ghost use Rattle.weights.specs.PairLaws.{pairs_lawful};
+ghost use Rattle.weights.specs.Weighings.{paired};
 ghost use Rattle.std.proofs.Common.{rules};
 
 use crate::kinds::WeightKind;
@@ -38,9 +38,7 @@ impl<A: Copy, B: Copy> PairTotal<A, B> {
 }
 
 impl<P: WeightKind, Q: WeightKind> WeightKind for Pair<P, Q> {
-    ghost scale = { pairs P.WeightKind.scale Q.WeightKind.scale };
-
-    ghost amount = { λ w. (P.WeightKind.amount w.first, Q.WeightKind.amount w.second) };
+    ghost weighing = { paired P.WeightKind.weighing Q.WeightKind.weighing };
 
     type Total = PairTotal<P::Total, Q::Total>;
 

@@ -4,11 +4,11 @@ use mathlib.Core.List.{map-map}
 use lib.ListN.{length-map}
 use Rattle.std.proofs.lemmas.Bool.{and_parts, ltb-true}
 use Rattle.forests.specs.Graphs.{Graph, Fits}
-use Rattle.weights.specs.Amounts.{numbers}
+use Rattle.weights.specs.Weighings.{by_metres}
 use Rattle.weights.specs.declared.metres.Metres.{Metres}
 use Rattle.networks.specs.Networks.{links_of, network_graph, weights_of}
 use Rattle.networks.specs.declared.networks.Network.{Network}
-use Rattle.worked.specs.Drawn.{Drawn, metres_in, drawn_as, Draws, HoldsDrawn}
+use Rattle.worked.specs.Drawn.{Drawn, drawn_as, Draws, HoldsDrawn}
 
 abbrev pub drawn_graph : ℕ → List Drawn → Graph
 drawn_graph sites links = record {
@@ -39,7 +39,7 @@ module _ (sites : ℕ) (links : List Drawn) (n : Network Metres) (d : Draws site
         usable = λ e. ltb e (sym many i) && not (sym (d.all_open e) i);
       }
 
-  pub metres_drawn : drawn_metres links ≡ weights_of numbers metres_in n
+  pub metres_drawn : drawn_metres links ≡ weights_of by_metres n
   metres_drawn = λ i e. sym (read (λ link. link.2) e) i
 
 -- what holds of the drawing holds of every network that is so drawn

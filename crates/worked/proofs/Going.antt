@@ -4,6 +4,7 @@ use Rattle.std.proofs.Common.{◌≡◌, ℕ, ◌-◌, List, [], ◌∷◌, ◌+
 use mathlib.Core.List.{map-map}
 use Rattle.forests.specs.Graphs.{SitesJoined}
 use Rattle.forests.specs.Lists.{Different}
+use Rattle.weights.specs.Weighings.{by_metres}
 use Rattle.weights.specs.Amounts.{numbers}
 use Rattle.cheapest.proofs.FullLists.{listing_unique}
 use Rattle.cheapest.specs.Trees.{FullList}
@@ -19,7 +20,7 @@ use Rattle.walks.proofs.Agreeing.{kept_same}
 use Rattle.walks.proofs.Listed.{listed_once, not_joined_empty}
 use Rattle.walks.proofs.Runs.{kept_none, kept_push, latest_push}
 use Rattle.worked.specs.Brought.{Exchanged, Brings}
-use Rattle.worked.specs.Drawn.{Drawn, metres_in}
+use Rattle.worked.specs.Drawn.{Drawn}
 use Rattle.worked.proofs.Drawings.{drawn_graph, holds_drawn}
 use Rattle.worked.proofs.Listings.{ListsDrawn}
 
@@ -53,7 +54,7 @@ pub goes_brings : (sites : ℕ) (links : List Drawn) (L : List (List ℕ)) → L
     → Goes L (sites - 1) (SitesJoined (drawn_graph sites links)) rule None start events end → Brings sites links rule start (map exchanged events) end
 goes_brings sites links L full rule start end events goes n d held before after p same =
     let g = network_graph n in
-    let w = weights_of numbers metres_in n in
+    let w = weights_of by_metres n in
     let once = listed_once _ _ L full in
     let listed : FullList g numbers w L = holds_drawn sites links (λ g w. FullList g numbers w L) full n d in
     let kept : Kept L (row_size n) (SitesJoined g) rule start events end =

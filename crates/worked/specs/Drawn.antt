@@ -1,7 +1,7 @@
 -- Networks of metres that are given link by link.
 use Rattle.std.specs.Prelude.{◌≡◌, ℕ, false, List, map}
 use Rattle.forests.specs.Graphs.{Graph}
-use Rattle.weights.specs.Amounts.{numbers}
+use Rattle.weights.specs.Weighings.{by_metres}
 use Rattle.weights.specs.declared.metres.Metres.{Metres}
 use Rattle.networks.specs.Networks.{sites_of, links_of, closed_in, network_graph, weights_of}
 use Rattle.networks.specs.declared.links.Link.{Link}
@@ -11,13 +11,9 @@ use Rattle.networks.specs.declared.networks.Network.{Network}
 abbrev pub Drawn : Type 0
 Drawn = ℕ × ℕ × ℕ
 
--- The amount of a weight of metres.
-abbrev pub metres_in : Metres → ℕ
-metres_in w = w.0
-
 -- What is drawn of a link.
 abbrev pub drawn_as : Link Metres → Drawn
-drawn_as link = (link.from, link.to, metres_in link.weight)
+drawn_as link = (link.from, link.to, by_metres.amount link.weight)
 
 -- The network has so many sites and these links, in the order of their numbers, and all are open.
 pub record Draws (sites : ℕ) (links : List Drawn) (n : Network Metres) : Type 0 where
@@ -27,4 +23,4 @@ pub record Draws (sites : ℕ) (links : List Drawn) (n : Network Metres) : Type 
 
 -- A statement on graphs with metres holds of every network that is so drawn.
 abbrev pub HoldsDrawn : ℕ → List Drawn → (Graph → (ℕ → ℕ) → Type 0) → Type 0
-HoldsDrawn sites links P = (n : Network Metres) → Draws sites links n → P (network_graph n) (weights_of numbers metres_in n)
+HoldsDrawn sites links P = (n : Network Metres) → Draws sites links n → P (network_graph n) (weights_of by_metres n)

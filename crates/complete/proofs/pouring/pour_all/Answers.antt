@@ -1,6 +1,6 @@
 use Rattle.std.proofs.Common.{ℕ, List, None, Option, subst}
 use Rattle.forests.specs.Graphs.{SitesJoined}
-use Rattle.weights.specs.Amounts.{numbers}
+use Rattle.weights.specs.Weighings.{by_metres}
 use Rattle.weights.specs.declared.metres.Metres.{Metres}
 use Rattle.networks.specs.Networks.{network_graph}
 use Rattle.networks.specs.declared.networks.Network.{Network}
@@ -17,7 +17,7 @@ returns c =
     let held' = tallied c.pour.new.receiver in
     let here = place_of c.pour.new.self in
     λ L. subst
-    (λ (n : Network Metres). Listed numbers (λ w. w.0) n L → (here : Option (List ℕ)) × PourDoes L (SitesJoined (network_graph n)) tallying None held 4294967295 c.pour.result.0 c.pour.result.1 here held')
+    (λ (n : Network Metres). Listed by_metres n L → (here : Option (List ℕ)) × PourDoes L (SitesJoined (network_graph n)) tallying None held 4294967295 c.pour.result.0 c.pour.result.1 here held')
     begun.network
     (λ full. (
       here,

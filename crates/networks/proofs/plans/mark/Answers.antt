@@ -9,19 +9,19 @@ pub loop-x-preserved : goal.loop-x-preserved
 loop-x-preserved g c =
     let k = g.K.WeightKind in
     let links = c.args.links.now in
-    let w : ℕ → k.scale.Amount = weight_of k.scale k.amount links in
-    let p : ℕ → Bool = λ x. not (k.scale.le (w c.args.link) (w x)) in
-    let here = weight_at k.scale k.amount links c.args.link c.index-links-link.result c.requires in
-    let there = weight_at k.scale k.amount links c.loop-x.x c.index-links-x.result c.loop-x-test.true in
-    let level : c.at_most-level.result ≡ k.scale.le (w c.args.link) (w c.loop-x.x) = (let e = c.at_most-level.ensures in cc) in
+    let w : ℕ → k.weighing.scale.Amount = weight_of k.weighing links in
+    let p : ℕ → Bool = λ x. not (k.weighing.scale.le (w c.args.link) (w x)) in
+    let here = weight_at k.weighing links c.args.link c.index-links-link.result c.requires in
+    let there = weight_at k.weighing links c.loop-x.x c.index-links-x.result c.loop-x-test.true in
+    let level : c.at_most-level.result ≡ k.weighing.scale.le (w c.args.link) (w c.loop-x.x) = (let e = c.at_most-level.ensures in cc) in
     count_step p c.loop-x.x c.loop-x.lighter (not c.at_most-level.result) c.loop-x.invariant.0 c.loop-x.invariant.1 (ap not level)
 
 pub returns : goal.returns
 returns g c =
     let k = g.K.WeightKind in
     let links = c.args.links.now in
-    let w : ℕ → k.scale.Amount = weight_of k.scale k.amount links in
-    let p : ℕ → Bool = λ x. not (k.scale.le (w c.args.link) (w x)) in
+    let w : ℕ → k.weighing.scale.Amount = weight_of k.weighing links in
+    let p : ℕ → Bool = λ x. not (k.weighing.scale.le (w c.args.link) (w x)) in
     record {
       inside = (let a = c.loop-x.invariant.0 in omega arith);
       counts = c.loop-x.invariant.1 ∙ ap (count p) (omega arith);

@@ -7,5 +7,5 @@ use Rattle.networks.proofs.plans.mark.Given as goal
 abbrev pub invariant-loop-x : goal.invariant-loop-x
 invariant-loop-x g l =
     let k = g.K.WeightKind in
-    let w = weight_of k.scale k.amount l.links in
-    (l.lighter ≤ l.x) × (l.lighter ≡ count (λ x. not (k.scale.le (w l.link) (w x))) l.x)
+    let w = weight_of k.weighing l.links in
+    (l.lighter ≤ l.x) × (l.lighter ≡ count (λ x. not (k.weighing.scale.le (w l.link) (w x))) l.x)

@@ -8,13 +8,13 @@ pub loop-link-init : goal.loop-link-init
 loop-link-init g c =
     let k = g.K.WeightKind in
     let links = c.args.links.now in
-    (refl, filled_none 0 (lighter_than k.scale (weight_of k.scale k.amount links) (length links)) 512)
+    (refl, filled_none 0 (lighter_than k.weighing.scale (weight_of k.weighing links) (length links)) 512)
 
 pub loop-link-preserved : goal.loop-link-preserved
 loop-link-preserved g c =
     let k = g.K.WeightKind in
     let links = c.args.links.now in
-    let f : ℕ → ℕ = lighter_than k.scale (weight_of k.scale k.amount links) (length links) in
+    let f : ℕ → ℕ = lighter_than k.weighing.scale (weight_of k.weighing links) (length links) in
     let link = c.loop-link.link in
     let l = c.loop-link.invariant.0 in (
       length-set c.loop-link.marks link c.mark.result ∙ l,
@@ -26,5 +26,5 @@ pub returns : goal.returns
 returns g c =
     let k = g.K.WeightKind in
     let links = c.args.links.now in
-    let f : ℕ → ℕ = lighter_than k.scale (weight_of k.scale k.amount links) (length links) in
+    let f : ℕ → ℕ = lighter_than k.weighing.scale (weight_of k.weighing links) (length links) in
     λ e l. filled_here 0 f c.loop-link.marks c.loop-link.link e c.loop-link.invariant.1 (let t = c.loop-link-test.false in omega arith)

@@ -7,4 +7,4 @@ abbrev pub invariant-loop-link : goal.invariant-loop-link
 invariant-loop-link g l =
     let k = g.K.WeightKind in
     (length l.marks ≡ 512)
-    × FilledTo 0 (lighter_than k.scale (weight_of k.scale k.amount l.links) (length l.links)) l.marks l.link
+    × FilledTo 0 (lighter_than k.weighing.scale (weight_of k.weighing l.links) (length l.links)) l.marks l.link

@@ -9,4 +9,4 @@ invariant-loop-entry g l =
     let k = g.K.WeightKind in
     (k.held l.total ≡ l.entry-index)
     × k.level l.total
-    × (k.sum l.total ≡ sum_of k.scale (map (weight_of k.scale k.amount l.links) (take l.entry-index l.row)))
+    × (k.sum l.total ≡ sum_of k.weighing.scale (map (weight_of k.weighing l.links) (take l.entry-index l.row)))

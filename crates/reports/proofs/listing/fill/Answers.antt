@@ -22,14 +22,14 @@ returns g c =
     let same : w.cells.ghost_name ≡ c.new-writer.result.cells.ghost_name = cc poured.lender in
     let is : w.cells.now ≡ written w ++ unwritten w = sym (take-append-drop w.used w.cells.now) in
     let named = sym (same ∙ new.lender) in
-    let acts : PourActs k.scale k.amount before after (writing room) [] limit count letter (written w) =
-    subst (λ (n : ℕ). PourActs k.scale k.amount before after (writing n) [] limit count letter (written w)) new.places
-    (subst (λ (held : List ℕ). PourActs k.scale k.amount before after (writing (length c.new-writer.result.cells.now)) held limit count letter (written w)) new.holds poured.acts) in
+    let acts : PourActs k.weighing before after (writing room) [] limit count letter (written w) =
+    subst (λ (n : ℕ). PourActs k.weighing before after (writing n) [] limit count letter (written w)) new.places
+    (subst (λ (held : List ℕ). PourActs k.weighing before after (writing (length c.new-writer.result.cells.now)) held limit count letter (written w)) new.holds poured.acts) in
     record {
-      fills = poured_fills k.scale laws k.amount before after room limit count letter (written w) _ acts c.requires.begun (front_held _ (written w) (unwritten w) c.used-used.result (let back : _ ≡ w.cells.now = search rules in back ∙ is) c.used-used.ensures);
+      fills = poured_fills k.weighing laws before after room limit count letter (written w) _ acts c.requires.begun (front_held _ (written w) (unwritten w) c.used-used.result (let back : _ ≡ w.cells.now = search rules in back ∙ is) c.used-used.ensures);
       stays = poured.stays;
-      within = poured_within k.scale laws k.amount before after room limit count letter (written w) (written w) acts c.requires.begun refl;
-      some = poured_some k.scale laws k.amount before after room limit count letter (written w) (written w) acts c.requires.begun refl c.requires.room;
+      within = poured_within k.weighing laws before after room limit count letter (written w) (written w) acts c.requires.begun refl;
+      some = poured_some k.weighing laws before after room limit count letter (written w) (written w) acts c.requires.begun refl c.requires.room;
       used = front_within _ (written w) (unwritten w) c.used-used.result (let back : _ ≡ w.cells.now = search rules in back ∙ is) c.used-used.ensures;
       same = search rules;
     }

@@ -9,7 +9,7 @@ returns g c =
     let before = c.args.walk.now in
     let after = c.next.new.self in
     record {
-      says = subst (λ (b : Bool). SaysFollows k.scale k.amount before after b) (sym c.is_ok.ensures.value)
-          (says_follows k.scale k.amount before after _ c.next.new.list c.requires.begun refl c.next.result c.next.ensures.acts);
+      says = subst (λ (b : Bool). SaysFollows k.weighing before after b) (sym c.is_ok.ensures.value)
+          (says_follows k.weighing before after _ c.next.new.list c.requires.begun refl c.next.result c.next.ensures.acts);
       stays = c.next.ensures.stays;
     }

@@ -10,9 +10,9 @@ returns-then-letter-ne76 g c =
     let before = c.args.walk.now in
     let start = c.args.out.now in
     record {
-      lists = listed_other k.scale k.amount before r.new.walk g.S.Sink.took start r.new.out r.result.0 r.result.1 r.ensures.lists r.ensures.within c.if-letter-ne76.true;
+      lists = listed_other k.weighing before r.new.walk g.S.Sink.took start r.new.out r.result.0 r.result.1 r.ensures.lists r.ensures.within c.if-letter-ne76.true;
       network = r.ensures.stays.network;
-      letter = letter_small k.scale k.amount before r.new.walk g.S.Sink.took start r.new.out r.result.0 r.result.1 r.ensures.lists g.met.K.WeightKind.lawful;
+      letter = letter_small k.weighing before r.new.walk g.S.Sink.took start r.new.out r.result.0 r.result.1 r.ensures.lists g.met.K.WeightKind.lawful;
     }
 
 pub returns-then-follows : goal.returns-then-follows
@@ -20,9 +20,9 @@ returns-then-follows g c =
     let k = g.K.WeightKind in
     let r = c.list_rows-count in
     let f = c.follows in
-    let says = subst (λ (b : Bool). SaysFollows k.scale k.amount r.new.walk f.new.walk b) c.if-follows.true f.ensures.says in
+    let says = subst (λ (b : Bool). SaysFollows k.weighing r.new.walk f.new.walk b) c.if-follows.true f.ensures.says in
     record {
-      lists = listed_more k.scale k.amount c.args.walk.now r.new.walk g.S.Sink.took c.args.out.now r.new.out r.result.0 r.result.1 r.ensures.lists
+      lists = listed_more k.weighing c.args.walk.now r.new.walk g.S.Sink.took c.args.out.now r.new.out r.result.0 r.result.1 r.ensures.lists
           f.new.walk c.if-letter-ne76.false r.ensures.stays.network says;
       network = f.ensures.stays.network ∙ r.ensures.stays.network;
       letter = omega arith;
@@ -33,9 +33,9 @@ returns-else-follows g c =
     let k = g.K.WeightKind in
     let r = c.list_rows-count in
     let f = c.follows in
-    let says = subst (λ (b : Bool). SaysFollows k.scale k.amount r.new.walk f.new.walk b) c.if-follows.false f.ensures.says in
+    let says = subst (λ (b : Bool). SaysFollows k.weighing r.new.walk f.new.walk b) c.if-follows.false f.ensures.says in
     record {
-      lists = listed_last k.scale k.amount c.args.walk.now r.new.walk g.S.Sink.took c.args.out.now r.new.out r.result.0 r.result.1 r.ensures.lists
+      lists = listed_last k.weighing c.args.walk.now r.new.walk g.S.Sink.took c.args.out.now r.new.out r.result.0 r.result.1 r.ensures.lists
           f.new.walk c.if-letter-ne76.false r.ensures.stays.network says;
       network = f.ensures.stays.network ∙ r.ensures.stays.network;
       letter = omega arith;

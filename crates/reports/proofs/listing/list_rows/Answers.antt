@@ -5,7 +5,7 @@ use Rattle.reports.proofs.listing.list_rows.Goals as goal
 pub loop-count-init : goal.loop-count-init
 loop-count-init g c =
     let k = g.K.WeightKind in
-    (gone_none k.scale k.amount c.args.walk.now g.S.Sink.took c.args.out.now c.requires.before, omega arith, refl)
+    (gone_none k.weighing c.args.walk.now g.S.Sink.took c.args.out.now c.requires.before, omega arith, refl)
 
 pub loop-count-preserved : goal.loop-count-preserved
 loop-count-preserved g c =
@@ -16,7 +16,7 @@ loop-count-preserved g c =
     let put = subst (λ (n : ℕ). g.S.Sink.took c.loop-count.out (take n f.new.places) c.put.new.self) used c.put.ensures in
     let within = f.ensures.within in
     let few = i.1 in (
-      gone_more k.scale k.amount c.args.walk.now g.S.Sink.took c.args.out.now c.loop-count.walk f.new.walk c.loop-count.out c.put.new.self
+      gone_more k.weighing c.args.walk.now g.S.Sink.took c.args.out.now c.loop-count.walk f.new.walk c.loop-count.out c.put.new.self
           c.args.limit c.loop-count.count f.result.0 f.result.1 (take f.result.2 f.new.places) i.0 f.ensures.fills f.ensures.stays put,
       omega arith,
       f.ensures.same ∙ i.2,
@@ -30,11 +30,11 @@ returns-then-letter-ne70 g c =
     let used : f.result.2 - 0 ≡ f.result.2 = omega arith in
     let put = subst (λ (n : ℕ). g.S.Sink.took c.loop-count.out (take n f.new.places) c.put.new.self) used c.put.ensures in
     record {
-      lists = gone_ends k.scale k.amount c.args.walk.now g.S.Sink.took c.args.out.now c.loop-count.walk f.new.walk c.loop-count.out c.put.new.self
+      lists = gone_ends k.weighing c.args.walk.now g.S.Sink.took c.args.out.now c.loop-count.walk f.new.walk c.loop-count.out c.put.new.self
           c.args.limit c.loop-count.count f.result.0 f.result.1 (take f.result.2 f.new.places) i.0 f.ensures.fills f.ensures.stays put
           i.1 c.if-letter-ne70.true;
       within = (let within = f.ensures.within in let few = i.1 in omega arith);
-      stays = (gone_more k.scale k.amount c.args.walk.now g.S.Sink.took c.args.out.now c.loop-count.walk f.new.walk c.loop-count.out c.put.new.self
+      stays = (gone_more k.weighing c.args.walk.now g.S.Sink.took c.args.out.now c.loop-count.walk f.new.walk c.loop-count.out c.put.new.self
           c.args.limit c.loop-count.count f.result.0 f.result.1 (take f.result.2 f.new.places) i.0 f.ensures.fills f.ensures.stays put).stays;
     }
 
@@ -45,7 +45,7 @@ returns g c =
     let few = i.1 in
     let left = c.loop-count-test.false in
     record {
-      lists = gone_all k.scale k.amount c.args.walk.now g.S.Sink.took c.args.out.now c.loop-count.walk c.loop-count.out c.args.limit c.loop-count.count i.0 (omega arith);
+      lists = gone_all k.weighing c.args.walk.now g.S.Sink.took c.args.out.now c.loop-count.walk c.loop-count.out c.args.limit c.loop-count.count i.0 (omega arith);
       within = few;
       stays = i.0.stays;
     }

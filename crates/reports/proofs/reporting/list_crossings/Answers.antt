@@ -1,5 +1,6 @@
 use Rattle.std.proofs.Common.{[], ◌∷◌, ◌++◌, length, sym, subst}
-use Rattle.weights.specs.Amounts.{numbers, pairs}
+use Rattle.weights.specs.Weighings.{by_metres, by_crossings, paired}
+use Rattle.weights.specs.Amounts.{numbers}
 use Rattle.weights.specs.declared.crossings.Crossings.{Crossings}
 use Rattle.weights.specs.declared.pairs.Pair.{Pair}
 use Rattle.weights.specs.declared.metres.Metres.{Metres}
@@ -27,6 +28,6 @@ returns g c =
     let same = c.begin-walk.ensures.network in
     let first = subst (λ (a : Answer). PutOut took o (line_of_answer a ++ (10 ∷ [])) o1) c.sound.ensures c.put_answer.ensures in
     let begins = subst (λ (n : Network (Pair Crossings Metres)). PutOut took o (sound_line (sites_of n) (length (links_of n)) ++ (10 ∷ [])) o1) (sym same) first in
-    subst (λ (n : Network (Pair Crossings Metres)). PutsNetwork (pairs numbers numbers) (λ (w : Pair Crossings Metres). (w.first.0, w.second.0)) crossings_text took n o o3) same
-    (report_of (pairs numbers numbers) (pairs_lawful numbers numbers numbers_lawful numbers_lawful) (λ (w : Pair Crossings Metres). (w.first.0, w.second.0)) crossings_text c.begin-walk.result listed.new.walk took o o1 listed.new.out o3 listed.result.0 listed.result.1 (total_text each.result)
+    subst (λ (n : Network (Pair Crossings Metres)). PutsNetwork (paired by_crossings by_metres) crossings_text took n o o3) same
+    (report_of (paired by_crossings by_metres) (pairs_lawful numbers numbers numbers_lawful numbers_lawful) crossings_text c.begin-walk.result listed.new.walk took o o1 listed.new.out o3 listed.result.0 listed.result.1 (total_text each.result)
     listed.ensures.network listed.ensures.lists each.ensures begins c.put_last.ensures)

@@ -1,5 +1,5 @@
 use Rattle.std.proofs.Common.{[], ◌∷◌, ◌++◌, length, sym, subst}
-use Rattle.weights.specs.Amounts.{numbers}
+use Rattle.weights.specs.Weighings.{by_metres}
 use Rattle.weights.specs.declared.metres.Metres.{Metres}
 use Rattle.cheapest.proofs.Numbers.{numbers_lawful}
 use Rattle.networks.specs.Networks.{sites_of, links_of}
@@ -24,6 +24,6 @@ returns g c =
     let same = c.begin-walk.ensures.network in
     let first = subst (λ (a : Answer). PutOut took o (line_of_answer a ++ (10 ∷ [])) o1) c.sound.ensures c.put_answer.ensures in
     let begins = subst (λ (n : Network Metres). PutOut took o (sound_line (sites_of n) (length (links_of n)) ++ (10 ∷ [])) o1) (sym same) first in
-    subst (λ (n : Network Metres). PutsNetwork numbers (λ (w : Metres). w.0) metres_text took n o o3) same
-    (report_of numbers numbers_lawful (λ (w : Metres). w.0) metres_text c.begin-walk.result listed.new.walk took o o1 listed.new.out o3 listed.result.0 listed.result.1 (total_text each.result)
+    subst (λ (n : Network Metres). PutsNetwork by_metres metres_text took n o o3) same
+    (report_of by_metres numbers_lawful metres_text c.begin-walk.result listed.new.walk took o o1 listed.new.out o3 listed.result.0 listed.result.1 (total_text each.result)
     listed.ensures.network listed.ensures.lists each.ensures begins c.put_last.ensures)

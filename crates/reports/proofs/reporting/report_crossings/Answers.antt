@@ -1,5 +1,5 @@
 use Rattle.std.proofs.Common.{List, [], ◌∷◌, ◌++◌, replicate, Result, sym, refl, subst}
-use Rattle.weights.specs.Amounts.{numbers, pairs}
+use Rattle.weights.specs.Weighings.{by_metres, by_crossings, paired}
 use Rattle.weights.specs.declared.crossings.Crossings.{Crossings}
 use Rattle.weights.specs.declared.pairs.Pair.{Pair}
 use Rattle.weights.specs.declared.metres.Metres.{Metres}
@@ -20,8 +20,8 @@ returns-in-Ok g c =
     let weight : Pair Crossings Metres = record { first = crossings; second = metres } in
     let blank : List (Link (Pair Crossings Metres)) = replicate 512 (record { from = 0; to = 0; weight = weight }) in
     let (text, report, put) = c.list_crossings.ensures in
-    let fits = subst (λ (r : Result (Network (Pair Crossings Metres)) Refusal). Fitting 80 6 (λ (w : Pair Crossings Metres). be16 w.first.0 ++ be32 w.second.0) (pairs numbers numbers) (λ (w : Pair Crossings Metres). (w.first.0, w.second.0)) crossings_text sheet blank c.load.new.links text r) (sym c.in-Ok.is) report in
-    (text, loaded_reports 80 6 (λ (w : Pair Crossings Metres). be16 w.first.0 ++ be32 w.second.0) (pairs numbers numbers) (λ (w : Pair Crossings Metres). (w.first.0, w.second.0)) crossings_text sheet blank c.load.new.links c.load.result text refl fits c.load.ensures, put)
+    let fits = subst (λ (r : Result (Network (Pair Crossings Metres)) Refusal). Fitting 80 6 (λ (w : Pair Crossings Metres). be16 w.first.0 ++ be32 w.second.0) (paired by_crossings by_metres) crossings_text sheet blank c.load.new.links text r) (sym c.in-Ok.is) report in
+    (text, loaded_reports 80 6 (λ (w : Pair Crossings Metres). be16 w.first.0 ++ be32 w.second.0) (paired by_crossings by_metres) crossings_text sheet blank c.load.new.links c.load.result text refl fits c.load.ensures, put)
 
 pub returns-in-Err : goal.returns-in-Err
 returns-in-Err g c =
@@ -31,5 +31,5 @@ returns-in-Err g c =
     let weight : Pair Crossings Metres = record { first = crossings; second = metres } in
     let blank : List (Link (Pair Crossings Metres)) = replicate 512 (record { from = 0; to = 0; weight = weight }) in
     let text = line_of (report_of c.in-Err.refusal) ++ (10 ∷ []) in
-    let fits = subst (λ (r : Result (Network (Pair Crossings Metres)) Refusal). Fitting 80 6 (λ (w : Pair Crossings Metres). be16 w.first.0 ++ be32 w.second.0) (pairs numbers numbers) (λ (w : Pair Crossings Metres). (w.first.0, w.second.0)) crossings_text sheet blank c.load.new.links text r) (sym c.in-Err.is) refl in
-    (text, loaded_reports 80 6 (λ (w : Pair Crossings Metres). be16 w.first.0 ++ be32 w.second.0) (pairs numbers numbers) (λ (w : Pair Crossings Metres). (w.first.0, w.second.0)) crossings_text sheet blank c.load.new.links c.load.result text refl fits c.load.ensures, c.put_answer.ensures)
+    let fits = subst (λ (r : Result (Network (Pair Crossings Metres)) Refusal). Fitting 80 6 (λ (w : Pair Crossings Metres). be16 w.first.0 ++ be32 w.second.0) (paired by_crossings by_metres) crossings_text sheet blank c.load.new.links text r) (sym c.in-Err.is) refl in
+    (text, loaded_reports 80 6 (λ (w : Pair Crossings Metres). be16 w.first.0 ++ be32 w.second.0) (paired by_crossings by_metres) crossings_text sheet blank c.load.new.links c.load.result text refl fits c.load.ensures, c.put_answer.ensures)

@@ -1,5 +1,5 @@
 use Rattle.std.proofs.Common.{List, [], ◌∷◌, ◌++◌, replicate, Result, sym, refl, subst}
-use Rattle.weights.specs.Amounts.{numbers}
+use Rattle.weights.specs.Weighings.{by_metres}
 use Rattle.weights.specs.declared.metres.Metres.{Metres}
 use Rattle.networks.specs.Refusals.{report_of, line_of}
 use Rattle.networks.specs.declared.links.Link.{Link}
@@ -16,8 +16,8 @@ returns-in-Ok g c =
     let weight : Metres = record { 0 = 0 } in
     let blank : List (Link Metres) = replicate 512 (record { from = 0; to = 0; weight = weight }) in
     let (text, report, put) = c.list_metres.ensures in
-    let fits = subst (λ (r : Result (Network Metres) Refusal). Fitting 87 4 (λ (w : Metres). be32 w.0) numbers (λ (w : Metres). w.0) metres_text sheet blank c.load.new.links text r) (sym c.in-Ok.is) report in
-    (text, loaded_reports 87 4 (λ (w : Metres). be32 w.0) numbers (λ (w : Metres). w.0) metres_text sheet blank c.load.new.links c.load.result text refl fits c.load.ensures, put)
+    let fits = subst (λ (r : Result (Network Metres) Refusal). Fitting 87 4 (λ (w : Metres). be32 w.0) by_metres metres_text sheet blank c.load.new.links text r) (sym c.in-Ok.is) report in
+    (text, loaded_reports 87 4 (λ (w : Metres). be32 w.0) by_metres metres_text sheet blank c.load.new.links c.load.result text refl fits c.load.ensures, put)
 
 pub returns-in-Err : goal.returns-in-Err
 returns-in-Err g c =
@@ -25,5 +25,5 @@ returns-in-Err g c =
     let weight : Metres = record { 0 = 0 } in
     let blank : List (Link Metres) = replicate 512 (record { from = 0; to = 0; weight = weight }) in
     let text = line_of (report_of c.in-Err.refusal) ++ (10 ∷ []) in
-    let fits = subst (λ (r : Result (Network Metres) Refusal). Fitting 87 4 (λ (w : Metres). be32 w.0) numbers (λ (w : Metres). w.0) metres_text sheet blank c.load.new.links text r) (sym c.in-Err.is) refl in
-    (text, loaded_reports 87 4 (λ (w : Metres). be32 w.0) numbers (λ (w : Metres). w.0) metres_text sheet blank c.load.new.links c.load.result text refl fits c.load.ensures, c.put_answer.ensures)
+    let fits = subst (λ (r : Result (Network Metres) Refusal). Fitting 87 4 (λ (w : Metres). be32 w.0) by_metres metres_text sheet blank c.load.new.links text r) (sym c.in-Err.is) refl in
+    (text, loaded_reports 87 4 (λ (w : Metres). be32 w.0) by_metres metres_text sheet blank c.load.new.links c.load.result text refl fits c.load.ensures, c.put_answer.ensures)

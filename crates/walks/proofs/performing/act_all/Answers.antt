@@ -11,7 +11,7 @@ loop-i-init g c =
     let k = g.K.WeightKind in
     let ρ = g.R.Receiver in
     let r = c.args.receiver.now in
-    (ran_none k.scale g.met.K.WeightKind.lawful k.amount c.args.walk.now (ρ.rule r) (ρ.held r) c.args.turns.now c.requires.begun c.requires.before, refl, end_self _, refl, refl)
+    (ran_none k.weighing g.met.K.WeightKind.lawful c.args.walk.now (ρ.rule r) (ρ.held r) c.args.turns.now c.requires.begun c.requires.before, refl, end_self _, refl, refl)
 
 pub loop-i-preserved : goal.loop-i-preserved
 loop-i-preserved g c =
@@ -31,8 +31,8 @@ loop-i-preserved g c =
     let same : set (set turns i once) i twice ≡ set turns i both =
     set-set turns i once twice
     ∙ ap (λ (t : Turn). set turns i (record { call = t.call; answer = c.act-answer.result })) (get_or-set_same turns i once c.index-turns-i-in-loop-i.result inside) in (
-      subst (λ (ts : List Turn). Ran k.scale k.amount c.args.walk.now c.act-answer.new.walk (ρ.rule r) (ρ.held r) (ρ.held next) c.args.turns.now ts (i + 1)) (sym same)
-          (ran_more k.scale g.met.K.WeightKind.lawful k.amount c.args.walk.now (ρ.rule r) (ρ.held r) c.args.turns.now c.loop-i.walk c.act-answer.new.walk (ρ.rule now)
+      subst (λ (ts : List Turn). Ran k.weighing c.args.walk.now c.act-answer.new.walk (ρ.rule r) (ρ.held r) (ρ.held next) c.args.turns.now ts (i + 1)) (sym same)
+          (ran_more k.weighing g.met.K.WeightKind.lawful c.args.walk.now (ρ.rule r) (ρ.held r) c.args.turns.now c.loop-i.walk c.act-answer.new.walk (ρ.rule now)
           (ρ.held now) (ρ.held next) turns i c.index-turns-i.result both inside inv.0 inv.1 a.performs a.stays),
       a.rule ∙ inv.1,
       end_end (ρ.spare r) (ρ.spare now) (ρ.spare next) inv.2 a.spare,
@@ -48,9 +48,9 @@ returns g c =
     let inv = c.loop-i.invariant in
     let all : c.loop-i.i ≡ length c.args.turns.now = (let left = c.loop-i-test.false in let most = c.loop-i.auto.i-end in omega arith) in
     record {
-      promise = ran_all k.scale g.met.K.WeightKind.lawful k.amount c.args.walk.now (ρ.rule r) (ρ.held r) c.args.turns.now c.loop-i.walk (ρ.held c.loop-i.receiver) c.loop-i.turns
+      promise = ran_all k.weighing g.met.K.WeightKind.lawful c.args.walk.now (ρ.rule r) (ρ.held r) c.args.turns.now c.loop-i.walk (ρ.held c.loop-i.receiver) c.loop-i.turns
           c.requires.begun inv.4
-          (subst (λ (n : ℕ). Ran k.scale k.amount c.args.walk.now c.loop-i.walk (ρ.rule r) (ρ.held r) (ρ.held c.loop-i.receiver) c.args.turns.now c.loop-i.turns n) all inv.0);
+          (subst (λ (n : ℕ). Ran k.weighing c.args.walk.now c.loop-i.walk (ρ.rule r) (ρ.held r) (ρ.held c.loop-i.receiver) c.args.turns.now c.loop-i.turns n) all inv.0);
       rule = inv.1;
       spare = inv.2;
       lender = inv.3;

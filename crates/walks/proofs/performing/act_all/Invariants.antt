@@ -9,5 +9,5 @@ invariant-loop-i g l =
     let ρ = g.R.Receiver in
     let was = l.initial.receiver in
     let is = l.receiver in
-    Ran k.scale k.amount l.initial.walk l.walk (ρ.rule was) (ρ.held was) (ρ.held is) l.initial.turns l.turns l.i
+    Ran k.weighing l.initial.walk l.walk (ρ.rule was) (ρ.held was) (ρ.held is) l.initial.turns l.turns l.i
     × (ρ.rule is ≡ ρ.rule was) × EndOf (ρ.spare was) (ρ.spare is) × (ρ.lender is ≡ ρ.lender was) × (length l.turns ≡ length l.initial.turns)

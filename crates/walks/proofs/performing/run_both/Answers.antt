@@ -9,7 +9,7 @@ returns g c =
     let two = c.perform-two in
     record {
       alike = λ same alike rule held asked.
-          same_run k.scale m.scale g.met.K.WeightKind.lawful g.met.M.WeightKind.lawful k.amount m.amount c.args.first c.args.second same alike _ _ _ _ _ _ _ _ _ _
+          same_run k.weighing m.weighing g.met.K.WeightKind.lawful g.met.M.WeightKind.lawful c.args.first c.args.second same alike _ _ _ _ _ _ _ _ _ _
           one.ensures.promise.promised two.ensures.promise.promised rule held asked;
       promise = one.ensures.promise;
       others = two.ensures.promise;

@@ -16,6 +16,6 @@ returns g c =
       before = place_off c.new.result c.new.ensures.before;
       sites = ap (λ (h : Graph). h.sites) graph;
       graph = graph;
-      listed = one_listed k.scale g.met.K.WeightKind.lawful k.amount c.args.network.now;
+      listed = one_listed k.weighing g.met.K.WeightKind.lawful c.args.network.now;
       alike = λ x y k l. ap (λ (p : Plan). numbers.le (mark_of p x) (mark_of p y)) same ∙ c.plan.ensures.alike x y k l;
     }

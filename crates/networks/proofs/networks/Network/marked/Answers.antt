@@ -15,11 +15,11 @@ invariant_of-result g c =
     let n = c.args.self.now in
     let links = c.links-links.result.now in
     let m = length links in
-    let w : ℕ → k.scale.Amount = weight_of k.scale k.amount links in
+    let w : ℕ → k.weighing.scale.Amount = weight_of k.weighing links in
     let order = c.rank_links.result in
     let mark : ℕ → ℕ = λ e. get_or c.marks.result e 0 in
     let good : sound n.sites links ≡ true = ap (sound n.sites) c.links-links.ensures.value ∙ n.ends in
-    let alike : Alike numbers k.scale mark w m = marks_alike k.scale g.met.K.WeightKind.lawful w m mark c.marks.ensures in
+    let alike : Alike numbers k.weighing.scale mark w m = marks_alike k.weighing.scale g.met.K.WeightKind.lawful w m mark c.marks.ensures in
     let ranking = c.rank_links.ensures.ranks in
     let place : (i : ℕ) → i < m → get_or order i 0 ≡ get_or (take m order) i 0 = λ i l. sym (get_or-take m order i 0 l) in
     let inside : (i : ℕ) → i < m → get_or order i 0 < m = λ i l. subst (λ (x : ℕ). x < m) (sym (place i l)) (ranking.links i l) in
@@ -31,7 +31,7 @@ invariant_of-result g c =
       starts = λ e l. subst (λ (x : ℕ). x < n.sites) (sym (c.starts.ensures e)) (from_inside n.sites links good e l);
       ends = λ e l. subst (λ (x : ℕ). x < n.sites) (sym (c.ends.ensures e)) (to_inside n.sites links good e l);
       links = inside;
-      ranks = λ i l. rank_alike numbers k.scale mark w m (get_or order i 0) alike (inside i l) ∙ ap (rank_of k.scale w m) (place i l) ∙ ranking.ranks i l;
+      ranks = λ i l. rank_alike numbers k.weighing.scale mark w m (get_or order i 0) alike (inside i l) ∙ ap (rank_of k.weighing.scale w m) (place i l) ∙ ranking.ranks i l;
     }
 
 pub returns : goal.returns
@@ -40,16 +40,16 @@ returns g c =
     let n = c.args.self.now in
     let links = c.links-links.result.now in
     let m = length links in
-    let w : ℕ → k.scale.Amount = weight_of k.scale k.amount links in
+    let w : ℕ → k.weighing.scale.Amount = weight_of k.weighing links in
     let mark : ℕ → ℕ = λ e. get_or c.marks.result e 0 in
     let same = c.links-links.ensures.value in
-    let alike : Alike numbers k.scale mark w m = marks_alike k.scale g.met.K.WeightKind.lawful w m mark c.marks.ensures in
+    let alike : Alike numbers k.weighing.scale mark w m = marks_alike k.weighing.scale g.met.K.WeightKind.lawful w m mark c.marks.ensures in
     record {
       graph = same_graph n.sites m (length (take n.count n.links)) (λ e. get_or c.starts.result e 0) (from_of (take n.count n.links)) (λ e. get_or c.ends.result e 0) (to_of (take n.count n.links)) (λ e. get_or c.open_links.result e false) (open_below n.closed (length (take n.count n.links)))
           (ap length same)
           (λ e. c.starts.ensures e ∙ ap (λ (ls : List (Link g.row.K.Denot)). from_of ls e) same)
           (λ e. c.ends.ensures e ∙ ap (λ (ls : List (Link g.row.K.Denot)). to_of ls e) same)
           (λ e. c.open_links.ensures.opens e ∙ ap (λ (ls : List (Link g.row.K.Denot)). open_below n.closed (length ls) e) same);
-      alike = subst (λ (ls : List (Link g.row.K.Denot)). Alike numbers k.scale mark (weight_of k.scale k.amount ls) (length ls)) same alike;
-      marks = subst (λ (ls : List (Link g.row.K.Denot)). (e : ℕ) → e < length ls → mark e ≡ lighter_than k.scale (weight_of k.scale k.amount ls) (length ls) e) same c.marks.ensures;
+      alike = subst (λ (ls : List (Link g.row.K.Denot)). Alike numbers k.weighing.scale mark (weight_of k.weighing ls) (length ls)) same alike;
+      marks = subst (λ (ls : List (Link g.row.K.Denot)). (e : ℕ) → e < length ls → mark e ≡ lighter_than k.weighing.scale (weight_of k.weighing ls) (length ls) e) same c.marks.ensures;
     }

@@ -29,7 +29,7 @@ returns g c =
     let list' = c.try_closed.new.list in
     record {
       joined = subst (λ (h : Graph). Decides r (SitesJoined (without h c.args.link))) same c.try_closed.ensures.joined;
-      writes = first_asked p (network_graph n) same k.scale g.met.K.WeightKind.lawful (weights_of k.scale k.amount n) c.plan-plan.ensures.alike
+      writes = first_asked p (network_graph n) same k.weighing.scale g.met.K.WeightKind.lawful (weights_of k.weighing n) c.plan-plan.ensures.alike
           c.args.link r list list' c.try_closed.ensures.writes;
       sites = refl;
       links = refl;

@@ -13,6 +13,6 @@ returns g c =
     record {
       acts = λ b L full.
           subst (λ (h : Graph). NextDoes L (h.sites - 1) (SitesJoined h) (place_in walk.rows) c.args.list.now c.next_row.new.list (refusal_of c.next_row.result) (place_in c.next_row.new.rows))
-          b.graph (c.next_row.ensures.does L (listed_by k.scale g.met.K.WeightKind.lawful k.amount walk b L full));
-      stays = record { network = refl; begun = still_begun k.scale k.amount walk c.next_row.new.rows _ c.next_row.ensures.plan };
+          b.graph (c.next_row.ensures.does L (listed_by k.weighing g.met.K.WeightKind.lawful walk b L full));
+      stays = record { network = refl; begun = still_begun k.weighing walk c.next_row.new.rows _ c.next_row.ensures.plan };
     }

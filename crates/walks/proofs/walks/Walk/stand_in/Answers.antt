@@ -15,6 +15,6 @@ returns g c b =
     let p = plan_of walk.rows in
     let link = c.args.link in
     let row : row_at (place_of walk) ≡ row_of walk.rows = ap row_at (place_on walk.rows c.requires.on) in
-    answered p (network_graph walk.network) b.graph k.scale g.met.K.WeightKind.lawful (weights_of k.scale k.amount walk.network) b.alike (row_at (place_of walk)) link
+    answered p (network_graph walk.network) b.graph k.weighing.scale g.met.K.WeightKind.lawful (weights_of k.weighing walk.network) b.alike (row_at (place_of walk)) link
     c.substitute.result c.requires.inside
     (subst (λ (r : List ℕ). MatchOption c.substitute.result ((f : ℕ) → In link r → StandsIn p r link f → ⊥) (λ f. FirstStandIn p r link f)) (sym row) c.substitute.ensures)
