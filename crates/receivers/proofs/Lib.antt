@@ -1,3 +1,4 @@
 mod Counting
 pub mod Fronts
 pub mod Lines
+pub mod Serving

@@ -1,5 +1,6 @@
 -- Taking rules. A rule says, from what is held and a row, what is held afterwards if the row is taken.
 use Rattle.std.specs.Prelude.{◌≡◌, ℕ, ◌-◌, Bool, List, [], ◌∷◌, ◌++◌, length, drop, is_some, Option}
+use Rattle.std.specs.Borrow.{GName}
 use Rattle.std.specs.Option.{unwrap_or}
 
 -- from what is held and a row, what is held afterwards; nothing where the row is not taken
@@ -26,3 +27,10 @@ with_places_given_back cells held = held ++ drop (length held) cells
 -- the second list is the end of the first
 abbrev pub EndOf : List ℕ → List ℕ → Type 0
 EndOf whole part = part ≡ drop (length whole - length part) whole
+
+-- what no call alters of a receiver: its rule and its lender stay, and the places that it has not used are the end of those that
+-- it had not used before
+pub record Serves {R : Type 0} (rule_of : R → Rule) (spare_of : R → List ℕ) (lender_of : R → List GName) (before after : R) : Type 0 where
+  pub rule : rule_of after ≡ rule_of before
+  pub spare : EndOf (spare_of before) (spare_of after)
+  pub lender : lender_of after ≡ lender_of before

@@ -1,7 +1,7 @@
 //! What a caller learns from a receiver: functions over any receiver and over a keeper, and examples.
 
 ghost use Rattle.std.specs.Prelude.{◌≡◌, [], ◌∷◌, length};
-ghost use Rattle.receivers.specs.Rules.{held_after_all, with_places_given_back, EndOf};
+ghost use Rattle.receivers.specs.Rules.{held_after_all, with_places_given_back, Serves};
 ghost use Rattle.receivers.specs.Keeping.{keeping};
 
 #[cfg(test)]
@@ -14,9 +14,7 @@ pub mod tests {
     // Offers two rows to any receiver.
     fn offer_two<R: Receiver>(r: &mut R, first: &[u16], second: &[u16])
         ensures held { R.held r.new ≡ held_after_all (R.rule r.old) (R.held r.old) (first.now ∷ second.now ∷ []) }
-        ensures rule { R.rule r.new ≡ R.rule r.old }
-        ensures spare { EndOf (R.spare r.old) (R.spare r.new) }
-        ensures lender { R.lender r.new ≡ R.lender r.old }
+        ensures serves { Serves R.rule R.spare R.lender r.old r.new }
     {
         let _ = r.take(first);
         let _ = r.take(second);

@@ -2,7 +2,7 @@
 
 ghost use Rattle.std.specs.Prelude.{◌≡◌, ℕ, List};
 ghost use Rattle.std.specs.Borrow.{GName};
-ghost use Rattle.receivers.specs.Rules.{Rule, takes, held_after, EndOf};
+ghost use Rattle.receivers.specs.Rules.{Rule, takes, held_after, Serves};
 
 /// What rows are offered to. What a receiver does with a row follows from what it holds and the row alone, by a taking
 /// rule that no call alters.
@@ -27,7 +27,5 @@ pub trait Receiver {
     fn take(&mut self, row: &[u16]) -> bool
         ensures answers { result ≡ takes (rule self.old) (held self.old) row.now }
         ensures held { held self.new ≡ held_after (rule self.old) (held self.old) row.now }
-        ensures rule { rule self.new ≡ rule self.old }
-        ensures spare { EndOf (spare self.old) (spare self.new) }
-        ensures lender { lender self.new ≡ lender self.old };
+        ensures serves { Serves rule spare lender self.old self.new };
 }

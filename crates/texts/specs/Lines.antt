@@ -1,7 +1,7 @@
 -- What a line holds.
 use Rattle.std.specs.Prelude.{ℕ, List, take}
-use Rattle.texts.specs.declared.types.Line.{Line}
+use Rattle.texts.specs.declared.types.LineOf.{LineOf}
 
 -- the bytes of the line
-abbrev pub line_bytes : Line → List ℕ
+abbrev pub line_bytes : {N : ℕ} → LineOf N → List ℕ
 line_bytes l = take l.len l.places

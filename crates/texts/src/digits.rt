@@ -1,9 +1,10 @@
 //! Numbers written in decimal.
 
-ghost use Rattle.std.specs.Prelude.{◌≡◌, ◌+◌, ◌<◌, decimal};
+ghost use Rattle.std.specs.Prelude.{◌≡◌, decimal};
 ghost use Rattle.texts.specs.Digits.{digits_of};
 
 use crate::types::Digits;
+use itoa::write_digits;
 
 impl Digits {
     /// The digits of a number, with no zero before them; the digit 0 for the number 0.
@@ -11,15 +12,7 @@ impl Digits {
         ensures { digits_of result ≡ decimal n }
     {
         let mut places = [0; 20];
-        let mut start = 20;
-        let mut rest = n;
-        while rest >= 10 {
-            start -= 1;
-            places[start] = digit(rest % 10);
-            rest /= 10;
-        }
-        start -= 1;
-        places[start] = digit(rest);
+        let start = write_digits(n, &mut places, 20);
         Digits { places, start }
     }
 
@@ -29,12 +22,4 @@ impl Digits {
     {
         self.places.split_at(self.start).1
     }
-}
-
-/// The byte of one digit.
-fn digit(n: u64) -> u8
-    requires { n < 10 }
-    ensures { result ≡ 48 + n }
-{
-    b'0' + n as u8
 }

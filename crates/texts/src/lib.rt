@@ -6,4 +6,4 @@ pub mod digits;
 pub mod lines;
 pub mod types;
 
-pub use types::{Digits, Line};
+pub use types::{Digits, Line, LineOf};

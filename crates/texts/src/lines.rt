@@ -3,37 +3,38 @@
 ghost use Rattle.std.specs.Prelude.{◌≡◌, ◌+◌, [], ◌++◌, length, if◌then◌else◌, decimal, nat_le};
 ghost use Rattle.texts.specs.Lines.{line_bytes};
 
-use crate::types::{Digits, Line};
+use crate::types::{Digits, LineOf};
 
-impl Line {
+impl<const N: usize> LineOf<N> {
     /// The line with no byte.
-    pub fn new() -> Line
+    pub fn new() -> LineOf<N>
         ensures { line_bytes result ≡ [] }
     {
-        Line {
-            places: [0; 64],
+        LineOf {
+            places: [0; N],
             len: 0,
         }
     }
 
     /// Appends a part if the line has room for all of it, and answers whether it has; else leaves the line.
     pub fn put(&mut self, part: &[u8]) -> bool
-        ensures fits { result ≡ nat_le (length (line_bytes self.old) + length part.now) 64 }
+        ensures fits { result ≡ nat_le (length (line_bytes self.old) + length part.now) N }
         ensures puts { line_bytes self.new ≡ (if result then line_bytes self.old ++ part.now else line_bytes self.old) }
     {
         let start = self.len;
-        if part.len() > 64 - start {
+        if part.len() > N - start {
             return false;
         }
         let end = start + part.len();
-        self.places[start..end].copy_from_slice(part);
+        let places = &mut self.places[..];
+        places[start..end].copy_from_slice(part);
         self.len = end;
         true
     }
 
     /// Appends the decimal digits of a number, likewise.
     pub fn put_number(&mut self, n: u64) -> bool
-        ensures fits { result ≡ nat_le (length (line_bytes self.old) + length (decimal n)) 64 }
+        ensures fits { result ≡ nat_le (length (line_bytes self.old) + length (decimal n)) N }
         ensures puts { line_bytes self.new ≡ (if result then line_bytes self.old ++ decimal n else line_bytes self.old) }
     {
         let digits = Digits::of(n);
@@ -44,6 +45,7 @@ impl Line {
     pub fn as_slice(&self) -> &[u8]
         ensures { result.now ≡ line_bytes self.now }
     {
-        &self.places[0..self.len]
+        let places = &self.places[..];
+        &places[..self.len]
     }
 }

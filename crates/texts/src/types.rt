@@ -12,12 +12,15 @@ pub struct Digits {
     ghost few: { start ≤ 20 },
 }
 
-/// A line of at most 64 bytes. It is made by `new`, with no byte.
+/// A line of at most `N` bytes. It is made by `new`, with no byte.
 #[derive(Clone, Copy)]
-pub struct Line {
+pub struct LineOf<const N: usize> {
     /// The bytes stand at the front; the places after them hold nothing of meaning.
-    pub(crate) places: [u8; 64],
+    pub(crate) places: [u8; N],
     /// How many of the places hold a byte of the line.
     pub(crate) len: usize,
-    ghost room: { len ≤ 64 },
+    ghost room: { len ≤ N },
 }
+
+/// A line of at most 64 bytes.
+pub type Line = LineOf<64>;

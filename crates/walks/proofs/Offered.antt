@@ -24,9 +24,3 @@ module _ (rule : Rule) where
 -- a row that is not taken alters nothing
 pub declined_same : (rule : Rule) (held row : List ℕ) → takes rule held row ≡ false → held_after rule held row ≡ held
 declined_same rule held row e = none_same (rule held row) held e
-
--- a list is the end of itself
-pub end_self : (xs : List ℕ) → EndOf xs xs
-end_self xs =
-    let none : 0 ≡ length xs - length xs = omega arith in
-    ap (λ (n : ℕ). drop n xs) none

@@ -2,7 +2,7 @@
 
 ghost use Rattle.std.specs.Prelude.{◌≡◌, List, None};
 ghost use Rattle.networks.specs.Refusals.{refusal_of};
-ghost use Rattle.receivers.specs.Rules.{EndOf};
+ghost use Rattle.receivers.specs.Rules.{Serves};
 ghost use Rattle.walks.specs.Acts.{Stays};
 ghost use Rattle.walks.specs.Promises.{Performs, Performed, SameLinks, WeighAlike, SameRun};
 ghost use Rattle.walks.specs.Turns.{asked_by, asked, heard_from, heard_as};
@@ -28,9 +28,7 @@ fn answer_of(res: Result<(), Refusal>) -> Answer
 fn act<K: WeightKind, R: Receiver>(walk: &mut Walk<K>, receiver: &mut R, call: &mut Call) -> Answer
     ensures performs { Performs K.WeightKind.weighing walk.old walk.new (R.Receiver.rule receiver.old) (R.Receiver.held receiver.old) (R.Receiver.held receiver.new) (asked_by call.old) (asked_by call.new) (heard_from result) }
     ensures stays { Stays K.WeightKind.weighing walk.old walk.new }
-    ensures rule { R.Receiver.rule receiver.new ≡ R.Receiver.rule receiver.old }
-    ensures spare { EndOf (R.Receiver.spare receiver.old) (R.Receiver.spare receiver.new) }
-    ensures lender { R.Receiver.lender receiver.new ≡ R.Receiver.lender receiver.old }
+    ensures serves { Serves R.Receiver.rule R.Receiver.spare R.Receiver.lender receiver.old receiver.new }
 {
     match call {
         Call::Next(list) => answer_of(walk.next(list)),
@@ -47,9 +45,7 @@ fn act_all<K: WeightKind, R: Receiver>(walk: &mut Walk<K>, receiver: &mut R, tur
     requires begun { Begun K.WeightKind.weighing walk.old }
     requires before { place_of walk.old ≡ None }
     ensures promise { Performed K.WeightKind.weighing (network_of walk.old) walk.new (R.Receiver.rule receiver.old) (R.Receiver.held receiver.old) (R.Receiver.held receiver.new) turns.old turns.new }
-    ensures rule { R.Receiver.rule receiver.new ≡ R.Receiver.rule receiver.old }
-    ensures spare { EndOf (R.Receiver.spare receiver.old) (R.Receiver.spare receiver.new) }
-    ensures lender { R.Receiver.lender receiver.new ≡ R.Receiver.lender receiver.old }
+    ensures serves { Serves R.Receiver.rule R.Receiver.spare R.Receiver.lender receiver.old receiver.new }
 {
     for i in 0..turns.len() {
         let answer = act(walk, receiver, &mut turns[i].call);
@@ -65,9 +61,7 @@ pub fn perform<K: WeightKind, R: Receiver>(
     turns: &mut [Turn],
 ) -> Walk<K>
     ensures promise { Performed K.WeightKind.weighing network result (R.Receiver.rule receiver.old) (R.Receiver.held receiver.old) (R.Receiver.held receiver.new) turns.old turns.new }
-    ensures rule { R.Receiver.rule receiver.new ≡ R.Receiver.rule receiver.old }
-    ensures spare { EndOf (R.Receiver.spare receiver.old) (R.Receiver.spare receiver.new) }
-    ensures lender { R.Receiver.lender receiver.new ≡ R.Receiver.lender receiver.old }
+    ensures serves { Serves R.Receiver.rule R.Receiver.spare R.Receiver.lender receiver.old receiver.new }
 {
     let mut walk = Walk::begin(network);
     act_all(&mut walk, receiver, turns);
@@ -86,12 +80,8 @@ fn run_both<K: WeightKind, M: WeightKind, R: Receiver, S: Receiver>(
     ensures alike { SameLinks first second → WeighAlike K.WeightKind.weighing M.WeightKind.weighing first second → R.Receiver.rule receiver.old ≡ S.Receiver.rule other.old → R.Receiver.held receiver.old ≡ S.Receiver.held other.old → asked turns.old ≡ asked others.old → SameRun turns.new others.new (R.Receiver.held receiver.new) (S.Receiver.held other.new) }
     ensures promise { Performed K.WeightKind.weighing first result.0 (R.Receiver.rule receiver.old) (R.Receiver.held receiver.old) (R.Receiver.held receiver.new) turns.old turns.new }
     ensures others { Performed M.WeightKind.weighing second result.1 (S.Receiver.rule other.old) (S.Receiver.held other.old) (S.Receiver.held other.new) others.old others.new }
-    ensures rule { R.Receiver.rule receiver.new ≡ R.Receiver.rule receiver.old }
-    ensures spare { EndOf (R.Receiver.spare receiver.old) (R.Receiver.spare receiver.new) }
-    ensures lender { R.Receiver.lender receiver.new ≡ R.Receiver.lender receiver.old }
-    ensures rule2 { S.Receiver.rule other.new ≡ S.Receiver.rule other.old }
-    ensures spare2 { EndOf (S.Receiver.spare other.old) (S.Receiver.spare other.new) }
-    ensures lender2 { S.Receiver.lender other.new ≡ S.Receiver.lender other.old }
+    ensures serves { Serves R.Receiver.rule R.Receiver.spare R.Receiver.lender receiver.old receiver.new }
+    ensures serves2 { Serves S.Receiver.rule S.Receiver.spare S.Receiver.lender other.old other.new }
 {
     let one = perform(first, receiver, turns);
     let two = perform(second, other, others);
@@ -112,12 +102,8 @@ pub fn perform_both<K: WeightKind, M: WeightKind, R: Receiver, S: Receiver>(
     ensures alike { SameLinks first second → WeighAlike K.WeightKind.weighing M.WeightKind.weighing first second → R.Receiver.rule receiver.old ≡ S.Receiver.rule other.old → R.Receiver.held receiver.old ≡ S.Receiver.held other.old → asked turns.old ≡ asked others.old → SameRun turns.new others.new (R.Receiver.held receiver.new) (S.Receiver.held other.new) }
     ensures promise { Performed K.WeightKind.weighing first result.0 (R.Receiver.rule receiver.old) (R.Receiver.held receiver.old) (R.Receiver.held receiver.new) turns.old turns.new }
     ensures others { Performed M.WeightKind.weighing second result.1 (S.Receiver.rule other.old) (S.Receiver.held other.old) (S.Receiver.held other.new) others.old others.new }
-    ensures rule { R.Receiver.rule receiver.new ≡ R.Receiver.rule receiver.old }
-    ensures spare { EndOf (R.Receiver.spare receiver.old) (R.Receiver.spare receiver.new) }
-    ensures lender { R.Receiver.lender receiver.new ≡ R.Receiver.lender receiver.old }
-    ensures rule2 { S.Receiver.rule other.new ≡ S.Receiver.rule other.old }
-    ensures spare2 { EndOf (S.Receiver.spare other.old) (S.Receiver.spare other.new) }
-    ensures lender2 { S.Receiver.lender other.new ≡ S.Receiver.lender other.old }
+    ensures serves { Serves R.Receiver.rule R.Receiver.spare R.Receiver.lender receiver.old receiver.new }
+    ensures serves2 { Serves S.Receiver.rule S.Receiver.spare S.Receiver.lender other.old other.new }
 {
     run_both(first, second, receiver, other, turns, others)
 }

@@ -5,7 +5,7 @@ ghost use Rattle.forests.specs.Graphs.{SitesJoined};
 ghost use Rattle.cheapest.specs.Kept.{kept_on, kept_row};
 ghost use Rattle.cheapest.specs.Plans.{graph_of};
 ghost use Rattle.cheapest.specs.Positions.{plan_of, is_on, row_of, CheapestIn};
-ghost use Rattle.receivers.specs.Rules.{EndOf};
+ghost use Rattle.receivers.specs.Rules.{Serves};
 ghost use Rattle.walks.specs.Doing.{OfferDoes, PourDoes};
 ghost use Rattle.walks.specs.Letters.{letter_of};
 ghost use Rattle.walks.specs.Walks.{place_in, ListedBy};
@@ -33,9 +33,7 @@ fn go_back(rows: &mut Rows, kept: &Kept)
 fn offer<R: Receiver>(rows: &mut Rows, receiver: &mut R) -> Option<Ending>
     ensures plan { plan_of rows.new ≡ plan_of rows.old }
     ensures does { (L : List (List ℕ)) → ListedBy (plan_of rows.old) L → OfferDoes L (SitesJoined (graph_of (plan_of rows.old))) (R.Receiver.rule receiver.old) (place_in rows.old) (R.Receiver.held receiver.old) result (place_in rows.new) (R.Receiver.held receiver.new) }
-    ensures rule { R.Receiver.rule receiver.new ≡ R.Receiver.rule receiver.old }
-    ensures spare { EndOf (R.Receiver.spare receiver.old) (R.Receiver.spare receiver.new) }
-    ensures lender { R.Receiver.lender receiver.new ≡ R.Receiver.lender receiver.old }
+    ensures serves { Serves R.Receiver.rule R.Receiver.spare R.Receiver.lender receiver.old receiver.new }
 {
     if !rows.joined() {
         return Some(Ending::NotJoined);
@@ -56,9 +54,7 @@ fn offer<R: Receiver>(rows: &mut Rows, receiver: &mut R) -> Option<Ending>
 pub(crate) fn pour_rows<R: Receiver>(rows: &mut Rows, receiver: &mut R, limit: u32) -> (u32, Ending)
     ensures plan { plan_of rows.new ≡ plan_of rows.old }
     ensures does { (L : List (List ℕ)) → ListedBy (plan_of rows.old) L → PourDoes L (SitesJoined (graph_of (plan_of rows.old))) (R.Receiver.rule receiver.old) (place_in rows.old) (R.Receiver.held receiver.old) limit result.0 (letter_of result.1) (place_in rows.new) (R.Receiver.held receiver.new) }
-    ensures rule { R.Receiver.rule receiver.new ≡ R.Receiver.rule receiver.old }
-    ensures spare { EndOf (R.Receiver.spare receiver.old) (R.Receiver.spare receiver.new) }
-    ensures lender { R.Receiver.lender receiver.new ≡ R.Receiver.lender receiver.old }
+    ensures serves { Serves R.Receiver.rule R.Receiver.spare R.Receiver.lender receiver.old receiver.new }
 {
     let mut count = 0;
     while count < limit {

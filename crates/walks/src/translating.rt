@@ -7,7 +7,7 @@ ghost use Rattle.cheapest.specs.Positions.{plan_of};
 ghost use Rattle.cheapest.specs.Ranks.{Alike};
 ghost use Rattle.networks.specs.Networks.{sites_of, links_of, network_graph, weights_of};
 ghost use Rattle.networks.specs.Refusals.{refusal_of};
-ghost use Rattle.receivers.specs.Rules.{EndOf};
+ghost use Rattle.receivers.specs.Rules.{Serves};
 ghost use Rattle.walks.specs.Acts.{Stays, NextActs, SeekActs, PourActs};
 ghost use Rattle.walks.specs.Walks.{network_of, place_in, OneList};
 
@@ -52,9 +52,7 @@ impl<K: WeightKind> Walk<K> {
     pub(crate) fn pour_into<R: Receiver>(&mut self, receiver: &mut R, limit: u32) -> (u32, char)
         ensures acts { PourActs K.WeightKind.weighing self.old self.new (R.Receiver.rule receiver.old) (R.Receiver.held receiver.old) limit result.0 result.1 (R.Receiver.held receiver.new) }
         ensures stays { Stays K.WeightKind.weighing self.old self.new }
-        ensures rule { R.Receiver.rule receiver.new ≡ R.Receiver.rule receiver.old }
-        ensures spare { EndOf (R.Receiver.spare receiver.old) (R.Receiver.spare receiver.new) }
-        ensures lender { R.Receiver.lender receiver.new ≡ R.Receiver.lender receiver.old }
+        ensures serves { Serves R.Receiver.rule R.Receiver.spare R.Receiver.lender receiver.old receiver.new }
     {
         let (count, ending) = pour_rows(&mut self.rows, receiver, limit);
         (count, ending.letter())

@@ -2,7 +2,7 @@
 
 ghost use Rattle.std.specs.Prelude.{◌≡◌, None};
 ghost use Rattle.networks.specs.Refusals.{refusal_of};
-ghost use Rattle.receivers.specs.Rules.{EndOf};
+ghost use Rattle.receivers.specs.Rules.{Serves};
 ghost use Rattle.walks.specs.Acts.{Stays, NextActs, SeekActs, PourActs};
 ghost use Rattle.walks.specs.Letters.{letter_of};
 ghost use Rattle.walks.specs.Walks.{network_of, place_of, row_at, Begun, OneList};
@@ -93,9 +93,7 @@ impl<K: WeightKind> Walk<K> {
     pub fn pour<R: Receiver>(&mut self, receiver: &mut R, limit: u32) -> (u32, char)
         ensures acts { PourActs K.WeightKind.weighing self.old self.new (R.Receiver.rule receiver.old) (R.Receiver.held receiver.old) limit result.0 result.1 (R.Receiver.held receiver.new) }
         ensures stays { Stays K.WeightKind.weighing self.old self.new }
-        ensures rule { R.Receiver.rule receiver.new ≡ R.Receiver.rule receiver.old }
-        ensures spare { EndOf (R.Receiver.spare receiver.old) (R.Receiver.spare receiver.new) }
-        ensures lender { R.Receiver.lender receiver.new ≡ R.Receiver.lender receiver.old }
+        ensures serves { Serves R.Receiver.rule R.Receiver.spare R.Receiver.lender receiver.old receiver.new }
     {
         self.pour_into(receiver, limit)
     }

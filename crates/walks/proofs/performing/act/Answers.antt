@@ -5,7 +5,7 @@ use Rattle.networks.specs.Refusals.{refusal_of}
 use Rattle.walks.specs.Calls.{next, seek}
 use Rattle.walks.specs.Turns.{asked_by}
 use Rattle.walks.specs.Walks.{place_of, row_size}
-use Rattle.walks.proofs.Offered.{end_self}
+use Rattle.receivers.proofs.Serving.{serves_same}
 use Rattle.walks.proofs.Performed.{take_front, next_event, seek_event, pour_event, asked_as, heard_alike, left_as}
 use Rattle.walks.proofs.performing.act.Goals as goal
 
@@ -26,9 +26,7 @@ returns-in-Next g c =
           (next_event L (row_size walk.network) (SitesJoined (network_graph walk.network)) (ρ.rule r) (place_of walk) (ρ.held r) list n.new.list (refusal_of n.result) (place_of n.new.self)
           (n.ensures.acts b L full))));
       stays = n.ensures.stays;
-      rule = refl;
-      spare = end_self _;
-      lender = refl;
+      serves = serves_same _;
     }
 
 pub returns-in-Pour : goal.returns-in-Pour
@@ -43,9 +41,7 @@ returns-in-Pour g c =
           (pour_event L (row_size walk.network) (SitesJoined (network_graph walk.network)) (ρ.rule r) (place_of walk) (ρ.held r) c.in-Pour.limit p.result.0 p.result.1 (place_of p.new.self) (ρ.held p.new.receiver)
           (p.ensures.acts b L full));
       stays = p.ensures.stays;
-      rule = p.ensures.rule;
-      spare = p.ensures.spare;
-      lender = p.ensures.lender;
+      serves = p.ensures.serves;
     }
 
 pub returns-in-Seek : goal.returns-in-Seek
@@ -63,7 +59,5 @@ returns-in-Seek g c =
           (seek_event L (row_size walk.network) (SitesJoined (network_graph walk.network)) (ρ.rule r) (place_of walk) (ρ.held r) c.deref.result.now (refusal_of s.result) (place_of s.new.self)
           (s.ensures.acts b L full))));
       stays = s.ensures.stays;
-      rule = refl;
-      spare = end_self _;
-      lender = refl;
+      serves = serves_same _;
     }

@@ -1,5 +1,5 @@
 use Rattle.std.proofs.Common.{◌≡◌, length}
-use Rattle.receivers.specs.Rules.{EndOf}
+use Rattle.receivers.specs.Rules.{Serves}
 use Rattle.walks.proofs.Running.{Ran}
 use Rattle.walks.proofs.performing.act_all.Given as goal
 
@@ -10,4 +10,4 @@ invariant-loop-i g l =
     let was = l.initial.receiver in
     let is = l.receiver in
     Ran k.weighing l.initial.walk l.walk (ρ.rule was) (ρ.held was) (ρ.held is) l.initial.turns l.turns l.i
-    × (ρ.rule is ≡ ρ.rule was) × EndOf (ρ.spare was) (ρ.spare is) × (ρ.lender is ≡ ρ.lender was) × (length l.turns ≡ length l.initial.turns)
+    × Serves ρ.rule ρ.spare ρ.lender was is × (length l.turns ≡ length l.initial.turns)

@@ -13,10 +13,6 @@ returns g c =
           one.ensures.promise.promised two.ensures.promise.promised rule held asked;
       promise = one.ensures.promise;
       others = two.ensures.promise;
-      rule = one.ensures.rule;
-      spare = one.ensures.spare;
-      lender = one.ensures.lender;
-      rule2 = two.ensures.rule;
-      spare2 = two.ensures.spare;
-      lender2 = two.ensures.lender;
+      serves = one.ensures.serves;
+      serves2 = two.ensures.serves;
     }

@@ -3,7 +3,8 @@ use Rattle.cheapest.specs.Positions.{CheapestIn, plan_of, row_of}
 use Rattle.cheapest.specs.declared.plan.Plan.{Plan}
 use Rattle.cheapest.specs.Kept.{kept_row}
 use Rattle.receivers.specs.Rules.{takes, held_after}
-use Rattle.walks.proofs.Offered.{declined_same, end_self}
+use Rattle.receivers.proofs.Serving.{serves_same}
+use Rattle.walks.proofs.Offered.{declined_same}
 use Rattle.walks.proofs.Moves.{place_back, on_cheapest, place_on, same_place, steps_come, stops_last}
 use Rattle.walks.proofs.pouring.offer.Goals as goal
 
@@ -15,9 +16,7 @@ returns-then-not-advance g c =
     record {
       plan = e.plan;
       does = λ L full. (joined, stops_last rows L full joined (e.ends refl), same_place rows c.advance.new.self (e.stays refl), refl);
-      rule = refl;
-      spare = end_self _;
-      lender = refl;
+      serves = serves_same _;
     }
 
 pub returns-then-take : goal.returns-then-take
@@ -43,9 +42,7 @@ returns-then-take g c =
           t.held ∙ ap (held_after (k.rule r) (k.held r)) row,
         ),
       );
-      rule = t.rule;
-      spare = t.spare;
-      lender = t.lender;
+      serves = t.serves;
     }
 
 pub go_back-requires : goal.go_back-requires
@@ -76,7 +73,5 @@ returns g c =
         place_back rows after c.kept-kept.result c.kept-kept.ensures.on c.kept-kept.ensures.row back.on back.row,
         t.held ∙ ap (held_after (k.rule r) (k.held r)) row ∙ declined_same (k.rule r) (k.held r) (row_of c.advance.new.self) declines,
       );
-      rule = t.rule;
-      spare = t.spare;
-      lender = t.lender;
+      serves = t.serves;
     }

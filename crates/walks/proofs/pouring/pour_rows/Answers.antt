@@ -1,6 +1,5 @@
 use Rattle.std.proofs.Common.{refl, ◌∙◌, arith}
-use Rattle.receivers.proofs.Fronts.{end_end}
-use Rattle.walks.proofs.Offered.{end_self}
+use Rattle.receivers.proofs.Serving.{serves_same, serves_then}
 use Rattle.walks.proofs.Poured.{taken_none, taken_more, taken_ends, taken_all}
 use Rattle.walks.proofs.pouring.pour_rows.Goals as goal
 
@@ -8,7 +7,7 @@ pub loop-count-init : goal.loop-count-init
 loop-count-init g c =
     let k = g.R.Receiver in
     let r = c.args.receiver.now in
-    (omega arith, taken_none c.args.rows.now (k.rule r) (k.held r), refl, end_self _, refl)
+    (omega arith, taken_none c.args.rows.now (k.rule r) (k.held r), serves_same r)
 
 pub loop-count-preserved : goal.loop-count-preserved
 loop-count-preserved g c =
@@ -20,10 +19,8 @@ loop-count-preserved g c =
     let next = c.offer.new.receiver in (
       omega (arith, c.loop-count-test.true),
       taken_more c.args.rows.now c.loop-count.rows c.offer.new.rows (k.rule r) (k.rule now) (k.held r) (k.held now) (k.held next)
-          c.loop-count.count c.offer.result i.1 i.2 o.does c.in_default.is o.plan,
-      o.rule ∙ i.2,
-      end_end (k.spare r) (k.spare now) (k.spare next) i.3 o.spare,
-      o.lender ∙ i.4,
+          c.loop-count.count c.offer.result i.1 i.2.rule o.does c.in_default.is o.plan,
+      serves_then i.2 o.serves,
     )
 
 pub returns-in-Some : goal.returns-in-Some
@@ -37,10 +34,8 @@ returns-in-Some g c =
     record {
       plan = o.plan ∙ i.1.plan;
       does = taken_ends c.args.rows.now c.loop-count.rows c.offer.new.rows (k.rule r) (k.rule now) (k.held r) (k.held now) (k.held next)
-          c.loop-count.count c.offer.result i.1 i.2 o.does c.in-Some.ending c.args.limit c.in-Some.is c.loop-count-test.true;
-      rule = o.rule ∙ i.2;
-      spare = end_end (k.spare r) (k.spare now) (k.spare next) i.3 o.spare;
-      lender = o.lender ∙ i.4;
+          c.loop-count.count c.offer.result i.1 i.2.rule o.does c.in-Some.ending c.args.limit c.in-Some.is c.loop-count-test.true;
+      serves = serves_then i.2 o.serves;
     }
 
 pub returns : goal.returns
@@ -51,7 +46,5 @@ returns g c =
     record {
       plan = i.1.plan;
       does = taken_all c.args.rows.now c.loop-count.rows (k.rule r) (k.held r) (k.held c.loop-count.receiver) c.loop-count.count c.args.limit i.1 (omega arith);
-      rule = i.2;
-      spare = i.3;
-      lender = i.4;
+      serves = i.2;
     }

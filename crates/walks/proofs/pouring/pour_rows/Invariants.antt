@@ -1,5 +1,5 @@
 use Rattle.std.proofs.Common.{◌≡◌, ◌-◌, ◌≤◌}
-use Rattle.receivers.specs.Rules.{EndOf}
+use Rattle.receivers.specs.Rules.{Serves}
 use Rattle.walks.proofs.Poured.{Taken}
 use Rattle.walks.proofs.pouring.pour_rows.Given as goal
 
@@ -9,7 +9,7 @@ invariant-loop-count g l =
     let was = l.initial.receiver in
     let is = l.receiver in
     (l.count ≤ l.limit) × Taken l.initial.rows l.rows (k.rule was) (k.held was) (k.held is) l.count
-    × (k.rule is ≡ k.rule was) × EndOf (k.spare was) (k.spare is) × (k.lender is ≡ k.lender was)
+    × Serves k.rule k.spare k.lender was is
 
 abbrev pub decreases-loop-count : goal.decreases-loop-count
 decreases-loop-count g l = l.limit - l.count

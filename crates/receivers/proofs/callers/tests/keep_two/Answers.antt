@@ -14,10 +14,10 @@ returns c =
     let cells = c.args.cells.now in
     let rows : List (List ℕ) = c.args.first.now ∷ c.args.second.now ∷ [] in
     let whole = take-append-drop k.used k.cells.now in
-    let same : k.cells.ghost_name ≡ c.new-keeper.result.cells.ghost_name = cc two.lender in
+    let same : k.cells.ghost_name ≡ c.new-keeper.result.cells.ghost_name = cc two.serves.lender in
     let is : k.cells.now ≡ kept k ++ unused k = sym whole in
     given_back cells _ (kept k) (unused k) _
     (search rules)
-    (subst (λ (xs : List ℕ). EndOf xs (unused k)) new.unused two.spare)
+    (subst (λ (xs : List ℕ). EndOf xs (unused k)) new.unused two.serves.spare)
     (search rules)
     (two.held ∙ ap (λ n. held_after_all (keeping n) (kept c.new-keeper.result) rows) new.places ∙ ap (λ held. held_after_all (keeping (length cells)) held rows) new.holds)

@@ -1,6 +1,6 @@
 use Rattle.std.proofs.Common.{ap, ◌∙◌}
 use Rattle.receivers.specs.Rules.{held_after}
-use Rattle.receivers.proofs.Fronts.{end_end}
+use Rattle.receivers.proofs.Serving.{serves_then}
 use Rattle.receivers.proofs.callers.tests.offer_two.Goals as goal
 
 pub returns : goal.returns
@@ -9,8 +9,6 @@ returns g c =
     let one = c.take.ensures in
     let two = c.take-2.ensures in
     record {
-      held = two.held ∙ ap (λ rule. held_after rule (m.held c.take.new.self) c.args.second.now) one.rule ∙ ap (λ held. held_after (m.rule c.args.r.now) held c.args.second.now) one.held;
-      rule = two.rule ∙ one.rule;
-      spare = end_end (m.spare c.args.r.now) (m.spare c.take.new.self) (m.spare c.take-2.new.self) one.spare two.spare;
-      lender = two.lender ∙ one.lender;
+      held = two.held ∙ ap (λ rule. held_after rule (m.held c.take.new.self) c.args.second.now) one.serves.rule ∙ ap (λ held. held_after (m.rule c.args.r.now) held c.args.second.now) one.held;
+      serves = serves_then one.serves two.serves;
     }

@@ -22,7 +22,5 @@ returns g c =
           (subst (λ (h : Graph). PourDoes L (SitesJoined h) (ρ.rule r) (place_in walk.rows) (ρ.held r) c.args.limit poured.result.0 (letter_of poured.result.1) (place_in poured.new.rows) (ρ.held r'))
           b.graph (poured.ensures.does L (listed_by k.weighing g.met.K.WeightKind.lawful walk b L full)));
       stays = record { network = refl; begun = still_begun k.weighing walk poured.new.rows _ poured.ensures.plan };
-      rule = poured.ensures.rule;
-      spare = poured.ensures.spare;
-      lender = poured.ensures.lender;
+      serves = poured.ensures.serves;
     }
