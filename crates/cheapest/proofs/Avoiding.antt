@@ -35,32 +35,6 @@ module _ (g : Graph) (fits : Fits g) (s : Scale) (laws : Lawful s) (w : ℕ → 
       reaches_avoidable g fits s laws w closed
       (other, (size, le_refl s laws (sum_of s (map w (first (closing g closed) s w))) (sum_of s (map w (first g s w))) (ap (sum_of s) same)))
 
--- a link that is not the closed one is as it was
-as_it_was : (usable : List Bool) (link e : ℕ) → (e ≡ link → ⊥) → (get_or usable e false && not (eqb e link)) ≡ get_or usable e false
-as_it_was usable link e ne = ap (λ b. get_or usable e false && not b) (ne_eqb e link ne) ∙ and_true (get_or usable e false)
-
--- closing one link, in the list of usable links
-pub closed_at : (usable : List Bool) (link e : ℕ) → link < length usable → get_or (set usable link false) e false ≡ (get_or usable e false && not (eqb e link))
-closed_at usable link e l = elim (cases_eq e link) [
-  | inl h ↦ ap (λ k. get_or (set usable link false) k false) h ∙ get_or-set_same usable link false false l
-      ∙ sym (and_right (get_or usable e false) (not (eqb e link)) (not_from_true (eqb e link) (eq-eqb e link h)))
-  | inr ne ↦ get_or-set_other usable link e false false ne ∙ sym (as_it_was usable link e ne)
-]
-
--- a number past the list closes nothing
-pub closed_past : (usable : List Bool) (link e : ℕ) → length usable ≤ link → get_or usable e false ≡ (get_or usable e false && not (eqb e link))
-closed_past usable link e l = elim (cases_eq e link) [
-  | inl h ↦ get_or_past usable e false (omega arith) ∙ sym (and_right (get_or usable e false) (not (eqb e link)) (not_from_true (eqb e link) (eq-eqb e link h)))
-  | inr ne ↦ sym (as_it_was usable link e ne)
-]
-
--- the graph of a plan with other usable links
-pub closed_graph : (p : Plan) (usable : List Bool) (link : ℕ) → ((e : ℕ) → get_or usable e false ≡ (get_or p.usable e false && not (eqb e link)))
-    → ◌≡◌ {A = Graph} (record { sites = p.sites; links = p.count; from = λ e. get_or p.from e 0; to = λ e. get_or p.to e 0; usable = λ e. get_or usable e false })
-    (closing (graph_of p) (λ e. eqb e link))
-closed_graph p usable link h =
-    ap (λ (u : ℕ → Bool). record { sites = p.sites; links = p.count; from = λ e. get_or p.from e 0; to = λ e. get_or p.to e 0; usable = u }) (fun_ext h)
-
 -- The first rows with and without a link, place by place.
 module _ (p : Plan) (link : ℕ) (q : Plan) (graph : graph_of q ≡ closing (graph_of p) (λ e. eqb e link)) (marks : mark_of q ≡ mark_of p) where
   other_first : first_of q ≡ first (closing (graph_of p) (λ e. eqb e link)) numbers (mark_of p)

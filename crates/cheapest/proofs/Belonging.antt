@@ -17,8 +17,9 @@ use Rattle.forests.proofs.Trees.{tree_free}
 use Rattle.cheapest.specs.Classes.{InSome}
 use Rattle.cheapest.specs.Completions.{completion}
 use Rattle.cheapest.specs.Plans.{graph_of, mark_of, ranked_of, first_of}
-use Rattle.cheapest.specs.Scans.{value_at, ring, grown, Filled}
+use Rattle.cheapest.specs.Scans.{ring, grown, Filled}
 use Rattle.cheapest.specs.declared.candidates.Candidates.{Candidates}
+use Rattle.cheapest.specs.Candidates.{start_of, end_of, class_of, number_of}
 use Rattle.cheapest.proofs.Classes.{some_reaches, reaches_some}
 use Rattle.cheapest.proofs.Filling.{forest_short}
 use Rattle.cheapest.proofs.Joining.{tree_size}
@@ -41,21 +42,21 @@ sum_more w xs j l = sym (ap (sum_of numbers) (map_more w xs j 0 l) ∙ sum_appen
 
 module _ (list : Candidates) where
   -- the candidates of a greedy completion are candidates
-  picked_small : (S : List ℕ) (c : ℕ) → In c (picks (ring list.start list.end) S (below list.count)) → c < list.count
-  picked_small S c m = below_in list.count c (picks_within (ring list.start list.end) S (below list.count) c m)
+  picked_small : (S : List ℕ) (c : ℕ) → In c (picks (ring (start_of list) (end_of list)) S (below list.count)) → c < list.count
+  picked_small S c m = below_in list.count c (picks_within (ring (start_of list) (end_of list)) S (below list.count) c m)
 
-  pub filled_marks : {at : List ℕ} {stack : List (List ℕ)} {size : ℕ} → Filled list.start list.end list.count [] at stack size
-      → map (value_at list.class) (take size at) ≡ map (mark_of list.plan) (first_of list.plan)
+  pub filled_marks : {at : List ℕ} {stack : List (List ℕ)} {size : ℕ} → Filled (start_of list) (end_of list) list.count [] at stack size
+      → map (class_of list) (take size at) ≡ map (mark_of list.plan) (first_of list.plan)
   filled_marks filled =
-      ap (map (value_at list.class)) filled.whole
-      ∙ classes_marks list (picks (ring list.start list.end) [] (below list.count)) (picked_small [])
+      ap (map (class_of list)) filled.whole
+      ∙ classes_marks list (picks (ring (start_of list) (end_of list)) [] (below list.count)) (picked_small [])
       ∙ ap (map (mark_of list.plan)) (sym (first_same list))
 
-  pub filled_size : {at : List ℕ} {stack : List (List ℕ)} {size : ℕ} → length at ≡ 64 → Filled list.start list.end list.count [] at stack size
+  pub filled_size : {at : List ℕ} {stack : List (List ℕ)} {size : ℕ} → length at ≡ 64 → Filled (start_of list) (end_of list) list.count [] at stack size
       → size ≡ length (first_of list.plan)
   filled_size {at} {stack} {size} wide filled =
       let w = mark_of list.plan in
-      let f = value_at list.class in
+      let f = class_of list in
       sym (length-take-le size at (omega (arith, filled.few))) ∙ sym (length-map (take size at) f) ∙ ap length (filled_marks filled) ∙ length-map (first_of list.plan) w
 
   module _ (c : ℕ) (l : c < list.count) where
@@ -66,27 +67,27 @@ module _ (list : Candidates) where
     loop_nowhere Span S (x ∷ xs) e more f (inl h) s = f.0 (subst (Span S) h s)
     loop_nowhere Span S (x ∷ xs) e more f (inr m) s = loop_nowhere Span (x ∷ S) xs e more f.1 m (more S (x ∷ S) (λ _ k. inr k) s)
 
-    ring_link : closes_ring (graph_of list.plan) [] (get_or list.number c 0) ≡ ring list.start list.end [] c
+    ring_link : closes_ring (graph_of list.plan) [] (number_of list c) ≡ ring (start_of list) (end_of list) [] c
     ring_link = ring_same list [] c (λ d m. absurd m) l
 
-    pub loop_none : ring list.start list.end [] c ≡ true → InSome (graph_of list.plan) numbers (mark_of list.plan) (get_or list.number c 0 ∷ []) → ⊥
+    pub loop_none : ring (start_of list) (end_of list) [] c ≡ true → InSome (graph_of list.plan) numbers (mark_of list.plan) (number_of list c ∷ []) → ⊥
     loop_none t some =
         let g = graph_of list.plan in
         let C = chains g.from g.to in
-        let e = get_or list.number c 0 in
+        let e = number_of list c in
         loop_nowhere (ClosesRing g) [] some.0 e (λ S T h s. wider (ClosesRing g) (closes_ring g) C S T e h s)
         (tree_free g (plan_fits list.plan) some.0 some.1.row.tree) (some.2 e (inl refl))
         ((C.dec [] e).0 (ring_link ∙ t))
 
-    module _ (clear : ring list.start list.end [] c ≡ false) where
-      alone : Indep (Spans (value_at list.start) (value_at list.end)) (c ∷ [])
-      alone = ((λ s. both_ways (ring list.start list.end [] c) clear (((chains (value_at list.start) (value_at list.end)).dec [] c).1 s)), tt)
+    module _ (clear : ring (start_of list) (end_of list) [] c ≡ false) where
+      alone : Indep (Spans (start_of list) (end_of list)) (c ∷ [])
+      alone = ((λ s. both_ways (ring (start_of list) (end_of list) [] c) clear (((chains (start_of list) (end_of list)).dec [] c).1 s)), tt)
 
-      pub grown_short : length (grown list.start list.end list.count (c ∷ []) 0) < 64
+      pub grown_short : length (grown (start_of list) (end_of list) list.count (c ∷ []) 0) < 64
       grown_short =
-          let from = value_at list.start in
-          let to = value_at list.end in
-          let test = ring list.start list.end in
+          let from = start_of list in
+          let to = end_of list in
+          let test = ring (start_of list) (end_of list) in
           let Q = picks test (c ∷ []) (below list.count) in
           omega (
             arith,
@@ -100,30 +101,30 @@ module _ (list : Candidates) where
                 (picks_indep (Spans from to) test (chains from to) (c ∷ []) (below list.count) alone),
           )
 
-      grown_small : (d : ℕ) → In d (grown list.start list.end list.count (c ∷ []) 0) → d < list.count
+      grown_small : (d : ℕ) → In d (grown (start_of list) (end_of list) list.count (c ∷ []) 0) → d < list.count
       grown_small d (inl e) = omega arith
       grown_small d (inr m) = picked_small (c ∷ []) d m
 
       -- the completion in candidates has the total of the completion in links
-      total_same : sum_of numbers (map (value_at list.class) (grown list.start list.end list.count (c ∷ []) 0))
-          ≡ sum_of numbers (map (mark_of list.plan) (push (get_or list.number c 0 ∷ []) (completion (graph_of list.plan) numbers (mark_of list.plan) (get_or list.number c 0 ∷ []))))
+      total_same : sum_of numbers (map (class_of list) (grown (start_of list) (end_of list) list.count (c ∷ []) 0))
+          ≡ sum_of numbers (map (mark_of list.plan) (push (number_of list c ∷ []) (completion (graph_of list.plan) numbers (mark_of list.plan) (number_of list c ∷ []))))
       total_same =
           let w = mark_of list.plan in
-          let e = get_or list.number c 0 in
+          let e = number_of list c in
           let K = completion (graph_of list.plan) numbers w (e ∷ []) in
-          let in-links : map (value_at list.class) (grown list.start list.end list.count (c ∷ []) 0) ≡ map w (e ∷ K) =
-          classes_marks list (grown list.start list.end list.count (c ∷ []) 0) grown_small
+          let in-links : map (class_of list) (grown (start_of list) (end_of list) list.count (c ∷ []) 0) ≡ map w (e ∷ K) =
+          classes_marks list (grown (start_of list) (end_of list) list.count (c ∷ []) 0) grown_small
           ∙ ap (map w) (sym (grown_same list (c ∷ []) 0 (λ d m. elim m [ inl h ↦ omega arith | inr b ↦ absurd b ]))) in
           ap (sum_of numbers) in-links ∙ omega (arith, total_push numbers numbers_lawful w (e ∷ []) K)
 
       pub some_by_total : length (first_of list.plan) + 1 ≡ list.plan.sites → (mine least : ℕ)
-          → mine ≡ sum_of numbers (map (value_at list.class) (grown list.start list.end list.count (c ∷ []) 0))
+          → mine ≡ sum_of numbers (map (class_of list) (grown (start_of list) (end_of list) list.count (c ∷ []) 0))
           → least ≡ sum_of numbers (map (mark_of list.plan) (first_of list.plan))
-          → Decides (leb mine least) (InSome (graph_of list.plan) numbers (mark_of list.plan) (get_or list.number c 0 ∷ []))
+          → Decides (leb mine least) (InSome (graph_of list.plan) numbers (mark_of list.plan) (number_of list c ∷ []))
       some_by_total joined mine least mine-is least-is =
           let g = graph_of list.plan in
           let w = mark_of list.plan in
-          let e = get_or list.number c 0 in
+          let e = number_of list c in
           let fits = plan_fits list.plan in
           let C = chains g.from g.to in
           let indep : Indep (ClosesRing g) (e ∷ []) = ((λ s. both_ways (closes_ring g [] e) (ring_link ∙ clear) ((C.dec [] e).1 s)), tt) in
@@ -138,7 +139,7 @@ module _ (list : Candidates) where
           )
 
   -- a link that is no candidate is in no tree
-  pub none_some : (e : ℕ) → ((c : ℕ) → c < list.count → get_or list.number c 0 ≡ e → ⊥) → InSome (graph_of list.plan) numbers (mark_of list.plan) (e ∷ []) → ⊥
+  pub none_some : (e : ℕ) → ((c : ℕ) → c < list.count → number_of list c ≡ e → ⊥) → InSome (graph_of list.plan) numbers (mark_of list.plan) (e ∷ []) → ⊥
   none_some e none some =
       let g = graph_of list.plan in
       let row = some.1.row in

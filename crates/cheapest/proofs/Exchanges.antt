@@ -7,9 +7,10 @@ use Rattle.forests.specs.Lists.{In}
 use Rattle.forests.proofs.Members.{in_get_d, place}
 use Rattle.cheapest.specs.Plans.{mark_of}
 use Rattle.cheapest.specs.Positions.{plan_of, is_on, row_of, CheapestIn}
-use Rattle.cheapest.specs.Scans.{value_at, Fronts, Placed, Matched, Crosses}
+use Rattle.cheapest.specs.Scans.{Fronts, Placed, Matched, Crosses}
 use Rattle.cheapest.specs.StandIns.{StandsIn, FirstStandIn}
 use Rattle.cheapest.specs.declared.enumeration.Rows.{Rows}
+use Rattle.cheapest.specs.Candidates.{start_of, end_of, class_of, number_of}
 use Rattle.cheapest.proofs.Listed.{key_of, keys_rise}
 use Rattle.cheapest.proofs.RowTests.{passes}
 use Rattle.cheapest.proofs.Standings.{numbers_front, small_front, row_cheapest}
@@ -28,7 +29,7 @@ module _ (rows : Rows) (on : is_on rows ≡ true) (q : ℕ) (ql : q < rows.size)
     (before : (j : ℕ) → j < q → get_or rest j 0 ≡ get_or rows.row j 0)
     (after : (j : ℕ) → (q ≤ j) × (j < 63) → get_or rest j 0 ≡ get_or rows.row (j + 1) 0)
     {at : List ℕ} {stack : List (List ℕ)} {r : Bool} (wide_at : length at ≡ 64)
-    (found : Matched rows.list.start rows.list.end rows.list.number rows.list.count (take (rows.size - 1) rest) at stack r) where
+    (found : Matched (start_of rows.list) (end_of rows.list) (number_of rows.list) rows.list.count (take (rows.size - 1) rest) at stack r) where
   here : q < length (take rows.size rows.row)
   here = omega (arith, length-take-le rows.size rows.row (omega (arith, rows.small, rows.widerow)))
 
@@ -38,16 +39,16 @@ module _ (rows : Rows) (on : is_on rows ≡ true) (q : ℕ) (ql : q < rows.size)
   rest_is : take (rows.size - 1) rest ≡ leaving q (take rows.size rows.row)
   rest_is = left_out rows.size q rows.row rest ql rows.small rows.widerow wide before after
 
-  placed : Placed rows.list.start rows.list.end rows.list.number rows.list.count (take (rows.size - 1) rest) at stack (rows.size - 1)
+  placed : Placed (start_of rows.list) (end_of rows.list) (number_of rows.list) rows.list.count (take (rows.size - 1) rest) at stack (rows.size - 1)
   placed =
-      subst (Placed rows.list.start rows.list.end rows.list.number rows.list.count (take (rows.size - 1) rest) at stack)
+      subst (Placed (start_of rows.list) (end_of rows.list) (number_of rows.list) rows.list.count (take (rows.size - 1) rest) at stack)
       (length-take-le (rows.size - 1) rest (omega (arith, rows.small)))
       (found.placed (found.answers ∙ ap (passes rows.list) rest_is ∙ rest_passes rows.list (take rows.size rows.row) cheapest q here))
 
-  pub rest_fronts : Fronts rows.list.start rows.list.end at stack (rows.size - 1)
+  pub rest_fronts : Fronts (start_of rows.list) (end_of rows.list) at stack (rows.size - 1)
   rest_fronts = placed.fronts
 
-  shown : map (value_at rows.list.number) (take (rows.size - 1) at) ≡ leaving q (take rows.size rows.row)
+  shown : map (number_of rows.list) (take (rows.size - 1) at) ≡ leaving q (take rows.size rows.row)
   shown = numbers_front rows.list at (rows.size - 1) (omega (arith, rows.small)) placed.inside rest (omega (arith, rows.small))
       (λ j l. placed.classes j l ∙ get_or-take (rows.size - 1) rest j 0 l) ∙ rest_is
 
@@ -63,32 +64,32 @@ module _ (rows : Rows) (on : is_on rows ≡ true) (q : ℕ) (ql : q < rows.size)
 
     -- what stands in is a candidate that crosses
     crossing : (h : ℕ) → StandsIn (plan_of rows) (row_of rows) e h
-        → (c : ℕ) × (c < rows.list.count) × (get_or rows.list.number c 0 ≡ h)
-        × Crosses rows.list.start rows.list.end rows.list.class rows.list.number (take (rows.size - 1) at) e (get_or rows.wanted q 0) c
+        → (c : ℕ) × (c < rows.list.count) × (number_of rows.list c ≡ h)
+        × Crosses (start_of rows.list) (end_of rows.list) (class_of rows.list) (number_of rows.list) (take (rows.size - 1) at) e (get_or rows.wanted q 0) c
     crossing h s = stands_crosses rows.list (take rows.size rows.row) cheapest q here (take (rows.size - 1) at) small shown e (get_or rows.wanted q 0) at_q mark
         h (subst (λ xs. StandsIn (plan_of rows) xs e h) (row_on rows on) s)
 
     module _ (c : ℕ) (none : (d : ℕ) → d < c → d < rows.list.count
-        → Crosses rows.list.start rows.list.end rows.list.class rows.list.number (take (rows.size - 1) at) e (get_or rows.wanted q 0) d → ⊥) where
+        → Crosses (start_of rows.list) (end_of rows.list) (class_of rows.list) (number_of rows.list) (take (rows.size - 1) at) e (get_or rows.wanted q 0) d → ⊥) where
       pub none_stands : rows.list.count ≤ c → (h : ℕ) → StandsIn (plan_of rows) (row_of rows) e h → ⊥
       none_stands past h s = let x = crossing h s in none x.0 (omega (arith, x.1)) x.1 x.3
 
       pub first_stands : (l : c < rows.list.count)
-          → Crosses rows.list.start rows.list.end rows.list.class rows.list.number (take (rows.size - 1) at) e (get_or rows.wanted q 0) c
-          → FirstStandIn (plan_of rows) (row_of rows) e (get_or rows.list.number c 0)
+          → Crosses (start_of rows.list) (end_of rows.list) (class_of rows.list) (number_of rows.list) (take (rows.size - 1) at) e (get_or rows.wanted q 0) c
+          → FirstStandIn (plan_of rows) (row_of rows) e (number_of rows.list c)
       first_stands l crosses =
           let key = key_of (plan_of rows) in
           let r = take rows.size rows.row in
           record {
             chosen = subst (λ xs. In e xs) (sym (row_on rows on)) (subst (λ z. In z r) at_q (in_get_d r q 0 here));
-            stands = subst (λ xs. StandsIn (plan_of rows) xs e (get_or rows.list.number c 0)) (sym (row_on rows on))
+            stands = subst (λ xs. StandsIn (plan_of rows) xs e (number_of rows.list c)) (sym (row_on rows on))
                 (crosses_stands rows.list r cheapest q here (take (rows.size - 1) at) small shown e (get_or rows.wanted q 0) at_q mark c l crosses);
             lowest = λ h s.
                 let x = crossing h s in
                 elim (cases_lt x.0 c) [
                   | inl less ↦ absurd (none x.0 less x.1 x.3)
                   | inr more ↦ elim (cases_eq c x.0) [
-                    | inl same ↦ omega (arith, ap (λ k. key (get_or rows.list.number k 0)) same, ap key x.2)
+                    | inl same ↦ omega (arith, ap (λ k. key (number_of rows.list k)) same, ap key x.2)
                     | inr ne ↦ omega (arith, keys_rise rows.list c x.0 (omega arith) x.1, ap key x.2)
                   ]
                 ];

@@ -11,7 +11,7 @@ use Rattle.forests.proofs.Counting.{count_lt}
 use Rattle.forests.proofs.Labelling.{chains, label_twice}
 use Rattle.forests.proofs.Size.{label_inside, roots_forest}
 use Rattle.forests.proofs.Completion.{picks_within, picks_indep}
-use Rattle.cheapest.specs.Scans.{value_at, ring, grown, Fronts, Placed, Filled}
+use Rattle.cheapest.specs.Scans.{ring, grown, Fronts, Placed, Filled}
 use Rattle.cheapest.proofs.Sorting.{below_in}
 use Rattle.cheapest.proofs.Growth.{placed_more, grown_skip, grown_pick, grown_take, grown_end}
 
@@ -26,11 +26,11 @@ forest_short from to n S some inside indep =
           (label_inside from to n S inside 0 some) refl (eq-eqb (find from to S r) r (label_twice from to S 0)),
     )
 
-module _ (start end : List ℕ) (n : ℕ) (fits : (c : ℕ) → c < n → (value_at start c < 64) × (value_at end c < 64)) where
+module _ (start end : ℕ → ℕ) (n : ℕ) (fits : (c : ℕ) → c < n → (start c < 64) × (end c < 64)) where
   pub picks_short : length (picks (ring start end) [] (below n)) < 64
   picks_short =
-      let from = value_at start in
-      let to = value_at end in
+      let from = start in
+      let to = end in
       let Q = picks (ring start end) [] (below n) in
       omega (
         arith,
@@ -41,14 +41,14 @@ module _ (start end : List ℕ) (n : ℕ) (fits : (c : ℕ) → c < n → (value
       )
 
 -- The state of that run, at candidate c with p in the row.
-pub record Filling (start end : List ℕ) (n : ℕ) (front row : List ℕ) (stack : List (List ℕ)) (p c : ℕ) : Type 0 where
+pub record Filling (start end : ℕ → ℕ) (n : ℕ) (front row : List ℕ) (stack : List (List ℕ)) (p c : ℕ) : Type 0 where
   pub wide : length row ≡ 64
   pub few : p < 64
-  pub placed : Placed start end [] n [] row stack p
+  pub placed : Placed start end (λ _. 0) n [] row stack p
   pub short : length (grown start end n front 0) < 64
   pub whole : grown start end n front 0 ≡ grown start end n (take p row) c
 
-module _ {start end : List ℕ} {n : ℕ} {front row : List ℕ} {stack : List (List ℕ)} {p c : ℕ} (here : Filling start end n front row stack p c) where
+module _ {start end : ℕ → ℕ} {n : ℕ} {front row : List ℕ} {stack : List (List ℕ)} {p c : ℕ} (here : Filling start end n front row stack p c) where
   pub filling_skip : c < n → ring start end (push [] (take p row)) c ≡ true → Filling start end n front row stack p (c + 1)
   filling_skip l t = record {
     wide = here.wide;
@@ -78,8 +78,8 @@ module _ {start end : List ℕ} {n : ℕ} {front row : List ℕ} {stack : List (
       record {
         wide = wide;
         few = filling_room l f;
-        placed = subst (λ r. Placed start end [] n [] r stack' (p + 1)) (sym e)
-            (placed_more start end [] n [] row stack stack' p c inside l refl here.placed (subst (λ r. Fronts start end r stack' (p + 1)) e fronts));
+        placed = subst (λ r. Placed start end (λ _. 0) n [] r stack' (p + 1)) (sym e)
+            (placed_more start end (λ _. 0) n [] row stack stack' p c inside l refl here.placed (subst (λ r. Fronts start end r stack' (p + 1)) e fronts));
         short = here.short;
         whole = here.whole ∙ grown_take start end n row p c inside l f ∙ ap (λ r. grown start end n (take (p + 1) r) (c + 1)) (sym e);
       }
@@ -92,7 +92,7 @@ module _ {start end : List ℕ} {n : ℕ} {front row : List ℕ} {stack : List (
     inside = here.placed.inside;
   }
 
-pub filling_moved : {start end : List ℕ} {n : ℕ} {front row row' : List ℕ} {stack stack' : List (List ℕ)} {p p' c : ℕ}
+pub filling_moved : {start end : ℕ → ℕ} {n : ℕ} {front row row' : List ℕ} {stack stack' : List (List ℕ)} {p p' c : ℕ}
     → row' ≡ row → stack' ≡ stack → p' ≡ p → Filling start end n front row stack p c → Filling start end n front row' stack' p' c
 filling_moved {start} {end} {n} {front} {row} {row'} {stack} {stack'} {p} {p'} {c} a b d h =
     subst (λ r. Filling start end n front r stack' p' c) (sym a)

@@ -10,7 +10,7 @@ use Rattle.forests.specs.Labels.{below}
 use Rattle.forests.proofs.Members.{in_get_d, place}
 use Rattle.forests.proofs.Completion.{picks_within}
 use Rattle.forests.proofs.LabelLists.{length_below, get_d_below}
-use Rattle.cheapest.specs.Scans.{value_at, ring, grown, Fronts, Placed, Completed}
+use Rattle.cheapest.specs.Scans.{ring, grown, Fronts, Placed, Completed}
 use Rattle.cheapest.proofs.Prefixes.{push_set}
 
 -- the candidates from c on
@@ -28,8 +28,8 @@ in_below_from n c d h =
     (omega (arith, e), omega (arith, e))
 
 -- one more candidate of the wanted class at the end of the row
-pub placed_more : (start end class : List ℕ) (n : ℕ) (wanted row : List ℕ) (stack stack' : List (List ℕ)) (p c : ℕ) → p < length row → c < n
-    → get_or class c 0 ≡ get_or wanted p 0 → Placed start end class n wanted row stack p → Fronts start end (set row p c) stack' (p + 1)
+pub placed_more : (start end class : ℕ → ℕ) (n : ℕ) (wanted row : List ℕ) (stack stack' : List (List ℕ)) (p c : ℕ) → p < length row → c < n
+    → class c ≡ get_or wanted p 0 → Placed start end class n wanted row stack p → Fronts start end (set row p c) stack' (p + 1)
     → Placed start end class n wanted (set row p c) stack' (p + 1)
 placed_more start end class n wanted row stack stack' p c l lc level old new = record {
   fronts = new;
@@ -38,12 +38,12 @@ placed_more start end class n wanted row stack stack' p c l lc level old new = r
     | inr ne ↦ omega (arith, get_or-set_other row p j c 0 ne, old.inside j (omega arith))
   ];
   classes = λ j h. elim (cases_eq j p) [
-    | inl e ↦ ap (λ k. get_or class (get_or (set row p c) k 0) 0) e ∙ ap (λ d. get_or class d 0) (get_or-set_same row p c 0 l) ∙ level ∙ ap (λ k. get_or wanted k 0) (sym e)
-    | inr ne ↦ ap (λ d. get_or class d 0) (get_or-set_other row p j c 0 ne) ∙ old.classes j (omega arith)
+    | inl e ↦ ap (λ k. class (get_or (set row p c) k 0)) e ∙ ap (λ d. class d) (get_or-set_same row p c 0 l) ∙ level ∙ ap (λ k. get_or wanted k 0) (sym e)
+    | inr ne ↦ ap (λ d. class d) (get_or-set_other row p j c 0 ne) ∙ old.classes j (omega arith)
   ];
 }
 
-pub placed_less : (start end class : List ℕ) (n : ℕ) (wanted row : List ℕ) (stack : List (List ℕ)) (d d' : ℕ) → d' ≤ d
+pub placed_less : (start end class : ℕ → ℕ) (n : ℕ) (wanted row : List ℕ) (stack : List (List ℕ)) (d d' : ℕ) → d' ≤ d
     → Placed start end class n wanted row stack d → Placed start end class n wanted row stack d'
 placed_less start end class n wanted row stack d d' l old = record {
   fronts = λ j u h. old.fronts j u (omega (arith, h.0), h.1);
@@ -51,7 +51,7 @@ placed_less start end class n wanted row stack d d' l old = record {
   classes = λ j h. old.classes j (omega arith);
 }
 
-module _ (start end : List ℕ) (n : ℕ) where
+module _ (start end : ℕ → ℕ) (n : ℕ) where
   pub grown_skip : (front : List ℕ) (c : ℕ) → c < n → ring start end (push [] front) c ≡ true → grown start end n front c ≡ grown start end n front (c + 1)
   grown_skip front c l t =
       let S = push [] front in
@@ -83,7 +83,7 @@ module _ (start end : List ℕ) (n : ℕ) where
 
 -- The state of a run that began with the first i of row₀, at candidate `first`, and has come to candidate
 -- c with p in the row.
-pub record Growing (start end class : List ℕ) (n : ℕ) (wanted row₀ : List ℕ) (i first : ℕ) (row : List ℕ) (stack : List (List ℕ)) (p c : ℕ) : Type 0 where
+pub record Growing (start end class : ℕ → ℕ) (n : ℕ) (wanted row₀ : List ℕ) (i first : ℕ) (row : List ℕ) (stack : List (List ℕ)) (p c : ℕ) : Type 0 where
   pub wide : length row ≡ 64
   pub low : i ≤ p
   pub far : p ≤ length wanted
@@ -92,14 +92,14 @@ pub record Growing (start end class : List ℕ) (n : ℕ) (wanted row₀ : List 
   pub whole : grown start end n (take i row₀) first ≡ grown start end n (take p row) c
 
 -- the same state under other names
-pub growing_moved : {start end class : List ℕ} {n : ℕ} {wanted row₀ : List ℕ} {i first : ℕ} {row row' : List ℕ} {stack stack' : List (List ℕ)} {p p' c : ℕ}
+pub growing_moved : {start end class : ℕ → ℕ} {n : ℕ} {wanted row₀ : List ℕ} {i first : ℕ} {row row' : List ℕ} {stack stack' : List (List ℕ)} {p p' c : ℕ}
     → row' ≡ row → stack' ≡ stack → p' ≡ p → Growing start end class n wanted row₀ i first row stack p c → Growing start end class n wanted row₀ i first row' stack' p' c
 growing_moved {start} {end} {class} {n} {wanted} {row₀} {i} {first} {row} {row'} {stack} {stack'} {p} {p'} {c} a b d h =
     subst (λ r. Growing start end class n wanted row₀ i first r stack' p' c) (sym a)
     (subst (λ s. Growing start end class n wanted row₀ i first row s p' c) (sym b)
     (subst (λ q. Growing start end class n wanted row₀ i first row stack q c) (sym d) h))
 
-module _ {start end class : List ℕ} {n : ℕ} {wanted row₀ : List ℕ} {i first : ℕ} {row : List ℕ} {stack : List (List ℕ)} {p c : ℕ}
+module _ {start end class : ℕ → ℕ} {n : ℕ} {wanted row₀ : List ℕ} {i first : ℕ} {row : List ℕ} {stack : List (List ℕ)} {p c : ℕ}
     (here : Growing start end class n wanted row₀ i first row stack p c) where
   pub growing_skip : c < n → ring start end (push [] (take p row)) c ≡ true → Growing start end class n wanted row₀ i first row stack p (c + 1)
   growing_skip l t = record {
@@ -112,7 +112,7 @@ module _ {start end class : List ℕ} {n : ℕ} {wanted row₀ : List ℕ} {i fi
   }
 
   pub growing_take : (row' : List ℕ) (stack' : List (List ℕ)) → p < length wanted → p < 64 → c < n → ring start end (push [] (take p row)) c ≡ false
-      → get_or class c 0 ≡ get_or wanted p 0 → row' ≡ set row p c → length row' ≡ 64 → Fronts start end row' stack' (p + 1)
+      → class c ≡ get_or wanted p 0 → row' ≡ set row p c → length row' ≡ 64 → Fronts start end row' stack' (p + 1)
       → Growing start end class n wanted row₀ i first row' stack' (p + 1) (c + 1)
   growing_take row' stack' lp lw l f level e wide fronts =
       let inside : p < length row = omega (arith, here.wide) in
@@ -138,38 +138,38 @@ module _ {start end class : List ℕ} {n : ℕ} {wanted row₀ : List ℕ} {i fi
       ∙ take-take m p row l
 
   -- the classes are the wanted ones: then this one is, too
-  at_place : (Q : List ℕ) → map (value_at class) Q ≡ wanted → p < length wanted → value_at class (get_or Q p 0) ≡ get_or wanted p 0
+  at_place : (Q : List ℕ) → map class Q ≡ wanted → p < length wanted → class (get_or Q p 0) ≡ get_or wanted p 0
   at_place Q e l =
-      sym (get_or-map (value_at class) Q p 0 0 (omega (arith, ap length e, length-map Q (value_at class))))
+      sym (get_or-map class Q p 0 0 (omega (arith, ap length e, length-map Q class)))
       ∙ ap (λ xs. get_or xs p 0) e
 
-  pub misses_end : n ≤ c → p < length wanted → p ≤ 64 → map (value_at class) (grown start end n (take i row₀) first) ≡ wanted → ⊥
+  pub misses_end : n ≤ c → p < length wanted → p ≤ 64 → map class (grown start end n (take i row₀) first) ≡ wanted → ⊥
   misses_end l lp lw e =
       let Q = grown start end n (take i row₀) first in
-      omega (arith, ap length e, length-map Q (value_at class), ap length here.whole, ap length (grown_end start end n (take p row) c l), front_length lw)
+      omega (arith, ap length e, length-map Q class, ap length here.whole, ap length (grown_end start end n (take p row) c l), front_length lw)
 
-  pub misses_class : c < n → p < length wanted → p ≤ 64 → ring start end (push [] (take p row)) c ≡ false → (get_or class c 0 ≡ get_or wanted p 0 → ⊥)
-      → map (value_at class) (grown start end n (take i row₀) first) ≡ wanted → ⊥
+  pub misses_class : c < n → p < length wanted → p ≤ 64 → ring start end (push [] (take p row)) c ≡ false → (class c ≡ get_or wanted p 0 → ⊥)
+      → map class (grown start end n (take i row₀) first) ≡ wanted → ⊥
   misses_class l lp lw f other e =
       let Q = grown start end n (take i row₀) first in
       let S = push [] (take p row) in
       let rest = picks (ring start end) (c ∷ S) (drop (c + 1) (below n)) in
       let at : get_or Q p 0 ≡ c = ap (λ xs. get_or xs p 0) (here.whole ∙ grown_pick start end n (take p row) c l f) ∙ get_or_at (take p row) c rest 0 p (front_length lw) in
-      other (ap (value_at class) (sym at) ∙ at_place Q e lp)
+      other (ap class (sym at) ∙ at_place Q e lp)
 
   -- classes rise with the candidates
-  pub misses_high : ((d : ℕ) → c ≤ d → d < n → get_or class c 0 ≤ get_or class d 0) → p < length wanted → p ≤ 64 → get_or wanted p 0 < get_or class c 0
-      → map (value_at class) (grown start end n (take i row₀) first) ≡ wanted → ⊥
+  pub misses_high : ((d : ℕ) → c ≤ d → d < n → class c ≤ class d) → p < length wanted → p ≤ 64 → get_or wanted p 0 < class c
+      → map class (grown start end n (take i row₀) first) ≡ wanted → ⊥
   misses_high rise lp lw above e =
       let Q = grown start end n (take i row₀) first in
       let S = push [] (take p row) in
       let more = picks (ring start end) S (drop c (below n)) in
       let d = get_or more (p - p) 0 in
       let none : p - p ≡ 0 = omega arith in
-      let long : 0 < length more = omega (arith, ap length e, length-map Q (value_at class), ap length here.whole, length-append (take p row) more, front_length lw) in
+      let long : 0 < length more = omega (arith, ap length e, length-map Q class, ap length here.whole, length-append (take p row) more, front_length lw) in
       let at : get_or Q p 0 ≡ d = ap (λ xs. get_or xs p 0) here.whole ∙ get_or-append_right (take p row) more p p 0 (front_length lw) (omega arith) in
       let place-d = in_below_from n c d (picks_within (ring start end) S (drop c (below n)) d (in_get_d more (p - p) 0 (omega arith))) in
-      omega (arith, rise d place-d.0 place-d.1, ap (value_at class) at, at_place Q e lp)
+      omega (arith, rise d place-d.0 place-d.1, ap class at, at_place Q e lp)
 
   -- the run ends, with a row or without
   pub completed : length wanted ≤ p → p ≤ 64 → Completed start end class n wanted row₀ i first row stack true
@@ -181,7 +181,7 @@ module _ {start end class : List ℕ} {n : ℕ} {wanted row₀ : List ℕ} {i fi
     misses = λ e. absurd (true≢false e);
   }
 
-  pub given_up : (map (value_at class) (grown start end n (take i row₀) first) ≡ wanted → ⊥) → Completed start end class n wanted row₀ i first row stack false
+  pub given_up : (map class (grown start end n (take i row₀) first) ≡ wanted → ⊥) → Completed start end class n wanted row₀ i first row stack false
   given_up none = record {
     same = here.same;
     placed = placed_less start end class n wanted row stack p i here.low here.placed;

@@ -28,6 +28,7 @@ pub mod RowTests
 pub mod Standings
 pub mod Joining
 pub mod Stances
+pub mod Reopened
 pub mod Avoiding
 pub mod Belonging
 pub mod Swaps

@@ -11,9 +11,9 @@ use Rattle.forests.proofs.Members.{in_get_d}
 use Rattle.forests.proofs.LabelLists.{length_below, get_d_below}
 use Rattle.cheapest.specs.Ranks.{rank}
 use Rattle.cheapest.specs.Plans.{graph_of, mark_of, ranked_of}
-use Rattle.cheapest.specs.Scans.{value_at}
 use Rattle.cheapest.specs.declared.plan.Plan.{Plan}
 use Rattle.cheapest.specs.declared.candidates.Candidates.{Candidates}
+use Rattle.cheapest.specs.Candidates.{start_of, end_of, class_of, number_of}
 use Rattle.cheapest.proofs.TreeRows.{candidates_rising, graph_amounts}
 use Rattle.cheapest.proofs.Numbers.{numbers_lawful}
 
@@ -31,20 +31,20 @@ pub plan_fits : (p : Plan) → Fits (graph_of p)
 plan_fits p = record { from_fits = p.starts; to_fits = p.ends }
 
 module _ (list : Candidates) where
-  pub listed : map (value_at list.number) (below list.count) ≡ ranked_of list.plan
+  pub listed : map (number_of list) (below list.count) ≡ ranked_of list.plan
   listed =
       let xs = below list.count in
-      let number = value_at list.number in
+      let number = number_of list in
       let size : length (map number xs) ≡ list.count = length-map xs number ∙ length_below list.count in
       ext_get_or 0 (map number xs) (ranked_of list.plan) (size ∙ list.all)
       (λ c l. let k : c < list.count = omega (arith, size) in
       get_or-map number xs c 0 0 (omega (arith, length_below list.count))
       ∙ ap number (get_d_below list.count c k) ∙ list.numbers c k)
 
-  pub candidate_in : (c : ℕ) → c < list.count → In (get_or list.number c 0) (ranked_of list.plan)
+  pub candidate_in : (c : ℕ) → c < list.count → In (number_of list c) (ranked_of list.plan)
   candidate_in c l = subst (λ x. In x (ranked_of list.plan)) (sym (list.numbers c l)) (in_get_d (ranked_of list.plan) c 0 (omega (arith, list.all)))
 
-  pub keys_rise : (c d : ℕ) → c < d → d < list.count → key_of list.plan (get_or list.number c 0) < key_of list.plan (get_or list.number d 0)
+  pub keys_rise : (c d : ℕ) → c < d → d < list.count → key_of list.plan (number_of list c) < key_of list.plan (number_of list d)
   keys_rise c d l k =
       let key = key_of list.plan in
       omega (
@@ -54,13 +54,13 @@ module _ (list : Candidates) where
         rising_places key (ranked_of list.plan) c d (candidates_rising (graph_of list.plan) numbers numbers_lawful (mark_of list.plan)) l (omega (arith, list.all)),
       )
 
-  pub classes_rise : (c d : ℕ) → c ≤ d → d < list.count → get_or list.class c 0 ≤ get_or list.class d 0
+  pub classes_rise : (c d : ℕ) → c ≤ d → d < list.count → class_of list c ≤ class_of list d
   classes_rise c d l k =
       let p = list.plan in
-      let x = get_or list.number c 0 in
-      let y = get_or list.number d 0 in
+      let x = number_of list c in
+      let y = number_of list d in
       elim (cases_eq c d) [
-        | inl e ↦ omega (arith, ap (λ n. get_or list.class n 0) e)
+        | inl e ↦ omega (arith, ap (λ n. class_of list n) e)
         | inr ne ↦ omega (
           arith,
           list.classes c (omega arith),
@@ -70,5 +70,5 @@ module _ (list : Candidates) where
         )
       ]
 
-  pub ends_fit : (c : ℕ) → c < list.count → (value_at list.start c < 64) × (value_at list.end c < 64)
+  pub ends_fit : (c : ℕ) → c < list.count → (start_of list c < 64) × (end_of list c < 64)
   ends_fit c l = (list.startfits c l, list.endfits c l)

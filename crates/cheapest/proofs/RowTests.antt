@@ -12,8 +12,9 @@ use Rattle.forests.specs.Labels.{below, closes_ring}
 use Rattle.forests.proofs.Labelling.{chains}
 use Rattle.cheapest.specs.Trees.{Cheapest}
 use Rattle.cheapest.specs.Plans.{graph_of, mark_of, ranked_of, first_of}
-use Rattle.cheapest.specs.Scans.{value_at, ring, matches}
+use Rattle.cheapest.specs.Scans.{ring, matches}
 use Rattle.cheapest.specs.declared.candidates.Candidates.{Candidates}
+use Rattle.cheapest.specs.Candidates.{start_of, end_of, number_of}
 use Rattle.cheapest.proofs.Successors.{Best}
 use Rattle.cheapest.proofs.Bases.{first_base}
 use Rattle.cheapest.proofs.TreeRows.{graph_setting, graph_proper, candidates_rising, cheapest_best, best_cheapest}
@@ -65,7 +66,7 @@ module _ (Span : List ℕ → ℕ → Type 0) (test : List ℕ → ℕ → Bool)
 
 -- the test, as the code makes it
 abbrev pub passes : Candidates → List ℕ → Bool
-passes list row = matches (ring list.start list.end) (value_at list.number) [] (below list.count) row
+passes list row = matches (ring (start_of list) (end_of list)) (number_of list) [] (below list.count) row
 
 module _ (list : Candidates) where
   passes_links : (row : List ℕ) → passes list row ≡ matches (closes_ring (graph_of list.plan)) (λ x. x) [] (ranked_of list.plan) row

@@ -6,18 +6,18 @@ use Rattle.std.proofs.lemmas.List.{get_or-take, take-take, drop_more, drop_all}
 use Rattle.std.proofs.lemmas.Bool.{cases_eq, cond-true, cond-false, eq-eqb, ne_eqb, false≢true}
 use Rattle.forests.specs.Closures.{push}
 use Rattle.forests.specs.Labels.{below}
-use Rattle.cheapest.specs.Scans.{value_at, ring, grown, departed, matches, Fronts, Placed, Completed, Moved, Matched}
+use Rattle.cheapest.specs.Scans.{ring, grown, departed, matches, Fronts, Placed, Completed, Moved, Matched}
 use Rattle.cheapest.proofs.Prefixes.{push_set}
 use Rattle.cheapest.proofs.Growth.{below_from, below_past, placed_more, placed_less}
 
 -- The state of a search that has tried the departures from place i on.
-pub record Trying (start end class : List ℕ) (n : ℕ) (wanted row₀ row : List ℕ) (stack : List (List ℕ)) (i : ℕ) : Type 0 where
+pub record Trying (start end class : ℕ → ℕ) (n : ℕ) (wanted row₀ row : List ℕ) (stack : List (List ℕ)) (i : ℕ) : Type 0 where
   pub far : i ≤ length wanted
   pub same : take i row ≡ take i row₀
   pub placed : Placed start end class n wanted row stack i
-  pub misses : (j : ℕ) → i ≤ j → j < length wanted → map (value_at class) (departed start end n row₀ j) ≡ wanted → ⊥
+  pub misses : (j : ℕ) → i ≤ j → j < length wanted → map class (departed start end n row₀ j) ≡ wanted → ⊥
 
-module _ {start end class : List ℕ} {n : ℕ} {wanted row₀ row : List ℕ} {stack : List (List ℕ)} where
+module _ {start end class : ℕ → ℕ} {n : ℕ} {wanted row₀ row : List ℕ} {stack : List (List ℕ)} where
   pub trying_first : row ≡ row₀ → Placed start end class n wanted row stack (length wanted) → Trying start end class n wanted row₀ row stack (length wanted)
   trying_first e h = record {
     far = omega arith;
@@ -75,7 +75,7 @@ module _ {start end class : List ℕ} {n : ℕ} {wanted row₀ row : List ℕ} {
           same = d.same ∙ one_same;
           placed = d.placed;
           misses = λ j l k e. elim (cases_eq j i) [
-            | inl at ↦ d.misses refl (ap (map (value_at class)) one_departed ∙ subst (λ x. map (value_at class) (departed start end n row₀ x) ≡ wanted) at e)
+            | inl at ↦ d.misses refl (ap (map class) one_departed ∙ subst (λ x. map class (departed start end n row₀ x) ≡ wanted) at e)
             | inr ne ↦ here.misses j (omega arith) k e
           ];
         }
@@ -85,24 +85,24 @@ matches_none test number S [] = refl
 matches_none test number S (x ∷ cs) = refl
 
 -- The state of a run that looks for the candidates of link numbers, and has found p of them below c.
-pub record Matching (start end number : List ℕ) (n : ℕ) (numbers row : List ℕ) (stack : List (List ℕ)) (p c : ℕ) : Type 0 where
+pub record Matching (start end number : ℕ → ℕ) (n : ℕ) (numbers row : List ℕ) (stack : List (List ℕ)) (p c : ℕ) : Type 0 where
   pub wide : length row ≡ 64
   pub far : p ≤ length numbers
   pub placed : Placed start end number n numbers row stack p
-  pub whole : matches (ring start end) (value_at number) [] (below n) numbers
-      ≡ matches (ring start end) (value_at number) (push [] (take p row)) (drop c (below n)) (drop p numbers)
+  pub whole : matches (ring start end) number [] (below n) numbers
+      ≡ matches (ring start end) number (push [] (take p row)) (drop c (below n)) (drop p numbers)
 
-module _ {start end number : List ℕ} {n : ℕ} {numbers row : List ℕ} {stack : List (List ℕ)} {p c : ℕ}
+module _ {start end number : ℕ → ℕ} {n : ℕ} {numbers row : List ℕ} {stack : List (List ℕ)} {p c : ℕ}
     (here : Matching start end number n numbers row stack p c) where
   -- the test at this candidate and this link
   at_both : c < n → p < length numbers
-      → matches (ring start end) (value_at number) (push [] (take p row)) (drop c (below n)) (drop p numbers)
-      ≡ matches (ring start end) (value_at number) (push [] (take p row)) (c ∷ drop (c + 1) (below n)) (get_or numbers p 0 ∷ drop (p + 1) numbers)
+      → matches (ring start end) number (push [] (take p row)) (drop c (below n)) (drop p numbers)
+      ≡ matches (ring start end) number (push [] (take p row)) (c ∷ drop (c + 1) (below n)) (get_or numbers p 0 ∷ drop (p + 1) numbers)
   at_both l k =
-      ap (λ cs. matches (ring start end) (value_at number) (push [] (take p row)) cs (drop p numbers)) (below_from n c l)
-      ∙ ap (λ xs. matches (ring start end) (value_at number) (push [] (take p row)) (c ∷ drop (c + 1) (below n)) xs) (drop_more numbers p 0 k)
+      ap (λ cs. matches (ring start end) number (push [] (take p row)) cs (drop p numbers)) (below_from n c l)
+      ∙ ap (λ xs. matches (ring start end) number (push [] (take p row)) (c ∷ drop (c + 1) (below n)) xs) (drop_more numbers p 0 k)
 
-  spoilt : matches (ring start end) (value_at number) [] (below n) numbers ≡ false → Matched start end number n numbers row stack false
+  spoilt : matches (ring start end) number [] (below n) numbers ≡ false → Matched start end number n numbers row stack false
   spoilt e = record {
     answers = sym e;
     empty = (placed_less start end number n numbers row stack p 0 (omega arith) here.placed).fronts;
@@ -112,8 +112,8 @@ module _ {start end number : List ℕ} {n : ℕ} {numbers row : List ℕ} {stack
   pub matched_all : length numbers ≤ p → Matched start end number n numbers row stack true
   matched_all l = record {
     answers = sym (here.whole
-        ∙ ap (λ xs. matches (ring start end) (value_at number) (push [] (take p row)) (drop c (below n)) xs) (drop_all p numbers l)
-        ∙ matches_none (ring start end) (value_at number) (push [] (take p row)) (drop c (below n)));
+        ∙ ap (λ xs. matches (ring start end) number (push [] (take p row)) (drop c (below n)) xs) (drop_all p numbers l)
+        ∙ matches_none (ring start end) number (push [] (take p row)) (drop c (below n)));
     empty = (placed_less start end number n numbers row stack p 0 (omega arith) here.placed).fronts;
     placed = λ _. placed_less start end number n numbers row stack p (length numbers) l here.placed;
   }
@@ -121,17 +121,17 @@ module _ {start end number : List ℕ} {n : ℕ} {numbers row : List ℕ} {stack
   -- no candidate is left
   pub unmatched_end : n ≤ c → p < length numbers → Matched start end number n numbers row stack false
   unmatched_end l k = spoilt (here.whole
-      ∙ ap (λ cs. matches (ring start end) (value_at number) (push [] (take p row)) cs (drop p numbers)) (below_past n c l)
-      ∙ ap (λ xs. matches (ring start end) (value_at number) (push [] (take p row)) [] xs) (drop_more numbers p 0 k))
+      ∙ ap (λ cs. matches (ring start end) number (push [] (take p row)) cs (drop p numbers)) (below_past n c l)
+      ∙ ap (λ xs. matches (ring start end) number (push [] (take p row)) [] xs) (drop_more numbers p 0 k))
 
   -- the candidate is the link sought
-  module _ (l : c < n) (k : p < length numbers) (hit : get_or number c 0 ≡ get_or numbers p 0) where
-    at_hit : matches (ring start end) (value_at number) [] (below n) numbers
-        ≡ (not (ring start end (push [] (take p row)) c) && matches (ring start end) (value_at number) (c ∷ push [] (take p row)) (drop (c + 1) (below n)) (drop (p + 1) numbers))
-    at_hit = here.whole ∙ at_both l k ∙ cond-true (eqb (get_or number c 0) (get_or numbers p 0)) _ _ (eq-eqb (get_or number c 0) (get_or numbers p 0) hit)
+  module _ (l : c < n) (k : p < length numbers) (hit : number c ≡ get_or numbers p 0) where
+    at_hit : matches (ring start end) number [] (below n) numbers
+        ≡ (not (ring start end (push [] (take p row)) c) && matches (ring start end) number (c ∷ push [] (take p row)) (drop (c + 1) (below n)) (drop (p + 1) numbers))
+    at_hit = here.whole ∙ at_both l k ∙ cond-true (eqb (number c) (get_or numbers p 0)) _ _ (eq-eqb (number c) (get_or numbers p 0) hit)
 
     pub unmatched_ring : ring start end (push [] (take p row)) c ≡ true → Matched start end number n numbers row stack false
-    unmatched_ring t = spoilt (at_hit ∙ ap (λ b. not b && matches (ring start end) (value_at number) (c ∷ push [] (take p row)) (drop (c + 1) (below n)) (drop (p + 1) numbers)) t)
+    unmatched_ring t = spoilt (at_hit ∙ ap (λ b. not b && matches (ring start end) number (c ∷ push [] (take p row)) (drop (c + 1) (below n)) (drop (p + 1) numbers)) t)
 
     pub matching_take : (row' : List ℕ) (stack' : List (List ℕ)) → p < 64 → ring start end (push [] (take p row)) c ≡ false
         → row' ≡ set row p c → length row' ≡ 64 → Fronts start end row' stack' (p + 1) → Matching start end number n numbers row' stack' (p + 1) (c + 1)
@@ -144,22 +144,22 @@ module _ {start end number : List ℕ} {n : ℕ} {numbers row : List ℕ} {stack
           placed = subst (λ r. Placed start end number n numbers r stack' (p + 1)) (sym e)
               (placed_more start end number n numbers row stack stack' p c inside l hit here.placed (subst (λ r. Fronts start end r stack' (p + 1)) e fronts));
           whole = at_hit
-              ∙ ap (λ b. not b && matches (ring start end) (value_at number) (c ∷ push [] (take p row)) rest (drop (p + 1) numbers)) f
-              ∙ ap (λ S. matches (ring start end) (value_at number) S rest (drop (p + 1) numbers)) (sym (push_set row p c inside))
-              ∙ ap (λ r. matches (ring start end) (value_at number) (push [] (take (p + 1) r)) rest (drop (p + 1) numbers)) (sym e);
+              ∙ ap (λ b. not b && matches (ring start end) number (c ∷ push [] (take p row)) rest (drop (p + 1) numbers)) f
+              ∙ ap (λ S. matches (ring start end) number S rest (drop (p + 1) numbers)) (sym (push_set row p c inside))
+              ∙ ap (λ r. matches (ring start end) number (push [] (take (p + 1) r)) rest (drop (p + 1) numbers)) (sym e);
         }
 
-  pub matching_skip : c < n → p < length numbers → (get_or number c 0 ≡ get_or numbers p 0 → ⊥) → Matching start end number n numbers row stack p (c + 1)
+  pub matching_skip : c < n → p < length numbers → (number c ≡ get_or numbers p 0 → ⊥) → Matching start end number n numbers row stack p (c + 1)
   matching_skip l k ne = record {
     wide = here.wide;
     far = here.far;
     placed = here.placed;
     whole = here.whole ∙ at_both l k
-        ∙ cond-false (eqb (get_or number c 0) (get_or numbers p 0)) _ _ (ne_eqb (get_or number c 0) (get_or numbers p 0) ne)
-        ∙ ap (λ xs. matches (ring start end) (value_at number) (push [] (take p row)) (drop (c + 1) (below n)) xs) (sym (drop_more numbers p 0 k));
+        ∙ cond-false (eqb (number c) (get_or numbers p 0)) _ _ (ne_eqb (number c) (get_or numbers p 0) ne)
+        ∙ ap (λ xs. matches (ring start end) number (push [] (take p row)) (drop (c + 1) (below n)) xs) (sym (drop_more numbers p 0 k));
   }
 
-pub matching_moved : {start end number : List ℕ} {n : ℕ} {numbers row row' : List ℕ} {stack stack' : List (List ℕ)} {p p' c : ℕ}
+pub matching_moved : {start end number : ℕ → ℕ} {n : ℕ} {numbers row row' : List ℕ} {stack stack' : List (List ℕ)} {p p' c : ℕ}
     → row' ≡ row → stack' ≡ stack → p' ≡ p → Matching start end number n numbers row stack p c → Matching start end number n numbers row' stack' p' c
 matching_moved {start} {end} {number} {n} {numbers} {row} {row'} {stack} {stack'} {p} {p'} {c} a b d h =
     subst (λ r. Matching start end number n numbers r stack' p' c) (sym a)

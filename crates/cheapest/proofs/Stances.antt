@@ -11,6 +11,7 @@ use Rattle.cheapest.specs.Positions.{plan_of, is_on, row_of, CheapestIn, Begins,
 use Rattle.cheapest.specs.Scans.{Fronts, Filled}
 use Rattle.cheapest.specs.declared.candidates.Candidates.{Candidates}
 use Rattle.cheapest.specs.declared.enumeration.Rows.{Rows}
+use Rattle.cheapest.specs.Candidates.{start_of, end_of, class_of, number_of}
 use Rattle.cheapest.proofs.Joining.{tree_size, first_begins, joined_size}
 use Rattle.cheapest.proofs.RowTests.{passes, passes_cheapest, cheapest_passes}
 use Rattle.cheapest.proofs.Standings.{Standing, first_standing, first_at}
@@ -46,9 +47,9 @@ Owed list at stack size wanted row on = record {
   whole : size ≡ length (first_of list.plan);
   wants : (j : ℕ) → j < size → get_or wanted j 0 ≡ mark_of list.plan (get_or (first_of list.plan) j 0);
   inside : (j : ℕ) → j < size → get_or at j 0 < list.count;
-  levels : (j : ℕ) → j < size → get_or list.class (get_or at j 0) 0 ≡ get_or wanted j 0;
-  shows : (j : ℕ) → j < size → get_or list.number (get_or at j 0) 0 ≡ get_or row j 0;
-  fronts : Fronts list.start list.end at stack size;
+  levels : (j : ℕ) → j < size → class_of list (get_or at j 0) ≡ get_or wanted j 0;
+  shows : (j : ℕ) → j < size → number_of list (get_or at j 0) ≡ get_or row j 0;
+  fronts : Fronts (start_of list) (end_of list) at stack size;
   passes : passes list (take size row) ≡ true;
   begins : AtFirst list size row on;
   joins : IsJoined list size on;
@@ -73,10 +74,10 @@ owed s begins joins =
     }
 
 -- a walk that stands before the list, with the first row filled in
-pub first_owed : (list : Candidates) {at : List ℕ} {stack : List (List ℕ)} {size : ℕ} → Filled list.start list.end list.count [] at stack size
+pub first_owed : (list : Candidates) {at : List ℕ} {stack : List (List ℕ)} {size : ℕ} → Filled (start_of list) (end_of list) list.count [] at stack size
     → length at ≡ 64 → (wanted row : List ℕ) → length wanted ≡ 64 → length row ≡ 64
-    → ((j : ℕ) → j < size → get_or wanted j 0 ≡ get_or list.class (get_or at j 0) 0)
-    → ((j : ℕ) → j < size → get_or row j 0 ≡ get_or list.number (get_or at j 0) 0) → Owed list at stack size wanted row false
+    → ((j : ℕ) → j < size → get_or wanted j 0 ≡ class_of list (get_or at j 0))
+    → ((j : ℕ) → j < size → get_or row j 0 ≡ number_of list (get_or at j 0)) → Owed list at stack size wanted row false
 first_owed list filled wide wanted row wide_wanted wide_row classes links =
     owed (first_standing list filled wide wanted row wide_wanted wide_row classes links)
     (λ j h. first_at list filled wide wanted row wide_wanted wide_row classes links j h.1) (λ e. absurd (false≢true e))

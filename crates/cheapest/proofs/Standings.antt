@@ -14,8 +14,9 @@ use Rattle.forests.proofs.Completion.{picks_within}
 use Rattle.cheapest.specs.Completions.{departs, Good}
 use Rattle.cheapest.specs.Trees.{Cheapest, Follows, NoneFollows}
 use Rattle.cheapest.specs.Plans.{graph_of, mark_of, first_of}
-use Rattle.cheapest.specs.Scans.{value_at, ring, grown, departed, Fronts, Placed, Moved, Matched, Filled}
+use Rattle.cheapest.specs.Scans.{ring, grown, departed, Fronts, Placed, Moved, Matched, Filled}
 use Rattle.cheapest.specs.declared.candidates.Candidates.{Candidates}
+use Rattle.cheapest.specs.Candidates.{start_of, end_of, class_of, number_of}
 use Rattle.cheapest.proofs.Bases.{no_longer}
 use Rattle.cheapest.proofs.Departures.{departure_free, departure_within}
 use Rattle.cheapest.proofs.TreeRows.{graph_setting, graph_proper}
@@ -34,9 +35,9 @@ pub record Standing (list : Candidates) (at : List ℕ) (stack : List (List ℕ)
   pub whole : size ≡ length (first_of list.plan)
   pub wants : (j : ℕ) → j < size → get_or wanted j 0 ≡ mark_of list.plan (get_or (first_of list.plan) j 0)
   pub inside : (j : ℕ) → j < size → get_or at j 0 < list.count
-  pub levels : (j : ℕ) → j < size → get_or list.class (get_or at j 0) 0 ≡ get_or wanted j 0
-  pub shows : (j : ℕ) → j < size → get_or list.number (get_or at j 0) 0 ≡ get_or row j 0
-  pub fronts : Fronts list.start list.end at stack size
+  pub levels : (j : ℕ) → j < size → class_of list (get_or at j 0) ≡ get_or wanted j 0
+  pub shows : (j : ℕ) → j < size → number_of list (get_or at j 0) ≡ get_or row j 0
+  pub fronts : Fronts (start_of list) (end_of list) at stack size
   pub passing : passes list (take size row) ≡ true
 
 -- two fronts of lists, place by place
@@ -52,24 +53,24 @@ module _ (list : Candidates) (at : List ℕ) (n : ℕ) (wide : n ≤ length at) 
       let l : p.0 < n = omega (arith, p.1, length-take-le n at wide) in
       omega (arith, p.2, get_or-take n at p.0 0 l, inside p.0 l)
 
-  pub numbers_front : (row : List ℕ) → n ≤ length row → ((j : ℕ) → j < n → get_or list.number (get_or at j 0) 0 ≡ get_or row j 0)
-      → map (value_at list.number) (take n at) ≡ take n row
+  pub numbers_front : (row : List ℕ) → n ≤ length row → ((j : ℕ) → j < n → number_of list (get_or at j 0) ≡ get_or row j 0)
+      → map (number_of list) (take n at) ≡ take n row
   numbers_front row l h =
-      let f = value_at list.number in
+      let f = number_of list in
       let size : length (take n at) ≡ n = length-take-le n at wide in
       sym (same_fronts n row (map f (take n at)) l (length-map (take n at) f ∙ size)
       (λ j k. sym (get_or-map f (take n at) j 0 0 (omega (arith, size)) ∙ ap f (get_or-take n at j 0 k) ∙ h j k)))
 
 -- classes of candidates are marks of links
 pub classes_marks : (list : Candidates) (xs : List ℕ) → ((c : ℕ) → In c xs → c < list.count)
-    → map (value_at list.class) xs ≡ map (mark_of list.plan) (map (value_at list.number) xs)
+    → map (class_of list) xs ≡ map (mark_of list.plan) (map (number_of list) xs)
 classes_marks list [] h = refl
 classes_marks list (c ∷ cs) h =
-    ap (λ x. x ∷ map (value_at list.class) cs) (list.classes c (h c (inl refl)))
-    ∙ ap (λ ys. mark_of list.plan (get_or list.number c 0) ∷ ys) (classes_marks list cs (λ d m. h d (inr m)))
+    ap (λ x. x ∷ map (class_of list) cs) (list.classes c (h c (inl refl)))
+    ∙ ap (λ ys. mark_of list.plan (number_of list c) ∷ ys) (classes_marks list cs (λ d m. h d (inr m)))
 
 module _ {list : Candidates} {at : List ℕ} {stack : List (List ℕ)} {size : ℕ} {wanted row : List ℕ} (here : Standing list at stack size wanted row) where
-  row_shown : map (value_at list.number) (take size at) ≡ take size row
+  row_shown : map (number_of list) (take size at) ≡ take size row
   row_shown = numbers_front list at size (omega (arith, here.small, here.wide_at)) here.inside row (omega (arith, here.small, here.wide_row)) here.shows
 
   marks_first : map (mark_of list.plan) (first_of list.plan) ≡ take size wanted
@@ -96,7 +97,7 @@ module _ {list : Candidates} {at : List ℕ} {stack : List (List ℕ)} {size : �
   row_cheapest joined = passes_cheapest list (omega (arith, here.whole)) (take size row) here.passing row_level
 
   -- what a search over candidates needs
-  pub row_placed : (goal : List ℕ) → goal ≡ take size wanted → Placed list.start list.end list.class list.count goal at stack size
+  pub row_placed : (goal : List ℕ) → goal ≡ take size wanted → Placed (start_of list) (end_of list) (class_of list) list.count goal at stack size
   row_placed goal e = record {
     fronts = here.fronts;
     inside = here.inside;
@@ -104,37 +105,37 @@ module _ {list : Candidates} {at : List ℕ} {stack : List (List ℕ)} {size : �
   }
 
   departed_front : (j : ℕ) → j < size
-      → departed list.start list.end list.count (take size at) j ≡ departed list.start list.end list.count at j
+      → departed (start_of list) (end_of list) list.count (take size at) j ≡ departed (start_of list) (end_of list) list.count at j
   departed_front j l =
-      ap (λ xs. grown list.start list.end list.count xs (get_or (take size at) j 0 + 1)) (take-take j size at (omega arith))
-      ∙ ap (λ c. grown list.start list.end list.count (take j at) (c + 1)) (get_or-take size at j 0 l)
+      ap (λ xs. grown (start_of list) (end_of list) list.count xs (get_or (take size at) j 0 + 1)) (take-take j size at (omega arith))
+      ∙ ap (λ c. grown (start_of list) (end_of list) list.count (take j at) (c + 1)) (get_or-take size at j 0 l)
 
-  departed_small : (j : ℕ) → j < size → (c : ℕ) → In c (departed list.start list.end list.count at j) → c < list.count
+  departed_small : (j : ℕ) → j < size → (c : ℕ) → In c (departed (start_of list) (end_of list) list.count at j) → c < list.count
   departed_small j l c m =
       let rest = drop (get_or at j 0 + 1) (below list.count) in
       let S = push [] (take j at) in
-      elim (in_either c (take j at) (picks (ring list.start list.end) S rest) m) [
+      elim (in_either c (take j at) (picks (ring (start_of list) (end_of list)) S rest) m) [
         | inl a ↦ small_front list at j (omega (arith, here.small, here.wide_at)) (λ k h. here.inside k (omega arith)) c a
-        | inr b ↦ (in_below_from list.count (get_or at j 0 + 1) c (picks_within (ring list.start list.end) S rest c b)).1
+        | inr b ↦ (in_below_from list.count (get_or at j 0 + 1) c (picks_within (ring (start_of list) (end_of list)) S rest c b)).1
       ]
 
   -- the departures of the row, in candidates and in links
   departs_shown : (j : ℕ) → j < size
-      → departs (graph_of list.plan) numbers (mark_of list.plan) (take size row) j ≡ map (value_at list.number) (departed list.start list.end list.count at j)
+      → departs (graph_of list.plan) numbers (mark_of list.plan) (take size row) j ≡ map (number_of list) (departed (start_of list) (end_of list) list.count at j)
   departs_shown j l =
       let long : length (take size at) ≡ size = length-take-le size at (omega (arith, here.small, here.wide_at)) in
       ap (λ r. departs (graph_of list.plan) numbers (mark_of list.plan) r j) (sym row_shown)
       ∙ departs_same list (take size at) j (omega (arith, long)) (small_front list at size (omega (arith, here.small, here.wide_at)) here.inside)
-      ∙ ap (map (value_at list.number)) (departed_front j l)
+      ∙ ap (map (number_of list)) (departed_front j l)
 
   marks_departed : (j : ℕ) → j < size
-      → map (value_at list.class) (departed list.start list.end list.count at j) ≡ map (mark_of list.plan) (departs (graph_of list.plan) numbers (mark_of list.plan) (take size row) j)
+      → map (class_of list) (departed (start_of list) (end_of list) list.count at j) ≡ map (mark_of list.plan) (departs (graph_of list.plan) numbers (mark_of list.plan) (take size row) j)
   marks_departed j l =
-      classes_marks list (departed list.start list.end list.count at j) (departed_small j l)
+      classes_marks list (departed (start_of list) (end_of list) list.count at j) (departed_small j l)
       ∙ ap (map (mark_of list.plan)) (sym (departs_shown j l))
 
   -- a departure is no longer than the row
-  departed_short : (j : ℕ) → j < size → length (departed list.start list.end list.count at j) ≤ size
+  departed_short : (j : ℕ) → j < size → length (departed (start_of list) (end_of list) list.count at j) ≤ size
   departed_short j l =
       let p = list.plan in
       let G = graph_setting (graph_of p) (key_of p) [] in
@@ -142,18 +143,18 @@ module _ {list : Candidates} {at : List ℕ} {stack : List (List ℕ)} {size : �
       let b = (passes_best list (take size row) here.passing row_level).base in
       let long : length (take size row) ≡ size = length-take-le size row (omega (arith, here.small, here.wide_row)) in
       let k : j < length (take size row) = omega (arith, long) in
-      let Q = departed list.start list.end list.count at j in
+      let Q = departed (start_of list) (end_of list) list.count at j in
       omega (
         arith,
         here.whole,
         no_longer G ok (departs (graph_of p) numbers (mark_of p) (take size row) j)
             (departure_free G ok (take size row) j b.rises b.within b.free k) (departure_within G ok (take size row) j b.rises b.within b.free k),
         ap length (departs_shown j l),
-        length-map Q (value_at list.number),
+        length-map Q (number_of list),
       )
 
   module _ (goal : List ℕ) (aim : goal ≡ take size wanted) {at' : List ℕ} {stack' : List (List ℕ)} {r : ℕ}
-      (moved : Moved list.start list.end list.class list.count goal at at' stack' r) where
+      (moved : Moved (start_of list) (end_of list) (class_of list) list.count goal at at' stack' r) where
     goal_length : length goal ≡ size
     goal_length = ap length aim ∙ length-take-le size wanted (omega (arith, here.small, here.wide_wanted))
 
@@ -175,21 +176,21 @@ module _ {list : Candidates} {at : List ℕ} {stack : List (List ℕ)} {size : �
       i_small : i < size
       i_small = omega (arith, moved.reach, goal_length)
 
-      departed_is : departed list.start list.end list.count at i ≡ take size at'
+      departed_is : departed (start_of list) (end_of list) list.count at i ≡ take size at'
       departed_is =
-          let Q = departed list.start list.end list.count at i in
+          let Q = departed (start_of list) (end_of list) list.count at i in
           sym (take_all size Q (departed_short i i_small))
           ∙ subst (λ m. take m Q ≡ take m at') goal_length (moved.grows i at-r)
 
-      found_placed : Placed list.start list.end list.class list.count goal at' stack' size
-      found_placed = subst (λ m. Placed list.start list.end list.class list.count goal at' stack' m) goal_length (moved.placed i at-r)
+      found_placed : Placed (start_of list) (end_of list) (class_of list) list.count goal at' stack' size
+      found_placed = subst (λ m. Placed (start_of list) (end_of list) (class_of list) list.count goal at' stack' m) goal_length (moved.placed i at-r)
 
       pub found_inside : (j : ℕ) → j < size → get_or at' j 0 < list.count
       found_inside = found_placed.inside
 
       found_good : Good (graph_of list.plan) numbers (mark_of list.plan) (take size row) i
       found_good =
-          let f = value_at list.class in
+          let f = class_of list in
           let long : length (take size at') ≡ size = length-take-le size at' (omega (arith, here.small)) in
           sym (marks_departed i i_small) ∙ ap (map f) departed_is
           ∙ ext_get_or 0 (map f (take size at')) goal (length-map (take size at') f ∙ long ∙ sym goal_length)
@@ -206,18 +207,18 @@ module _ {list : Candidates} {at : List ℕ} {stack : List (List ℕ)} {size : �
 
       -- the links that changed are read out
       module _ (row' : List ℕ) (wide-row' : length row' ≡ 64) (keeps : (j : ℕ) → j < i → get_or row' j 0 ≡ get_or row j 0)
-          (writes : (j : ℕ) → (i ≤ j) × (j < size) → get_or row' j 0 ≡ get_or list.number (get_or at' j 0) 0) where
-        next_shows : (j : ℕ) → j < size → get_or list.number (get_or at' j 0) 0 ≡ get_or row' j 0
+          (writes : (j : ℕ) → (i ≤ j) × (j < size) → get_or row' j 0 ≡ number_of list (get_or at' j 0)) where
+        next_shows : (j : ℕ) → j < size → number_of list (get_or at' j 0) ≡ get_or row' j 0
         next_shows j l = elim (cases_lt j i) [
           | inl k ↦
-              ap (value_at list.number) (sym (get_or-take i at' j 0 k) ∙ ap (λ xs. get_or xs j 0) (moved.same i at-r) ∙ get_or-take i at j 0 k)
+              ap (number_of list) (sym (get_or-take i at' j 0 k) ∙ ap (λ xs. get_or xs j 0) (moved.same i at-r) ∙ get_or-take i at j 0 k)
               ∙ here.shows j l ∙ sym (keeps j k)
           | inr k ↦ sym (writes j (k, l))
         ]
 
         next_is : departs (graph_of list.plan) numbers (mark_of list.plan) (take size row) i ≡ take size row'
         next_is =
-            departs_shown i i_small ∙ ap (map (value_at list.number)) departed_is
+            departs_shown i i_small ∙ ap (map (number_of list)) departed_is
             ∙ numbers_front list at' size (omega (arith, here.small)) found_placed.inside row' (omega (arith, here.small)) next_shows
 
         pub next_follows : size + 1 ≡ list.plan.sites → Follows (graph_of list.plan) numbers (mark_of list.plan) (take size row) (take size row')
@@ -240,13 +241,13 @@ module _ {list : Candidates} {at : List ℕ} {stack : List (List ℕ)} {size : �
 
   -- the candidates of other links of the wanted marks were found
   pub other_standing : (given : List ℕ) {at' : List ℕ} {stack' : List (List ℕ)} (row' : List ℕ)
-      → Matched list.start list.end list.number list.count given at' stack' true → length given ≡ size
+      → Matched (start_of list) (end_of list) (number_of list) list.count given at' stack' true → length given ≡ size
       → ((j : ℕ) → j < size → mark_of list.plan (get_or given j 0) ≡ get_or wanted j 0)
       → length at' ≡ 64 → length row' ≡ 64 → ((j : ℕ) → j < size → get_or row' j 0 ≡ get_or given j 0)
       → Standing list at' stack' size wanted row'
   other_standing given {at'} {stack'} row' found long marks wide wide_row same =
-      let placed : Placed list.start list.end list.number list.count given at' stack' size =
-      subst (λ m. Placed list.start list.end list.number list.count given at' stack' m) long (found.placed refl) in
+      let placed : Placed (start_of list) (end_of list) (number_of list) list.count given at' stack' size =
+      subst (λ m. Placed (start_of list) (end_of list) (number_of list) list.count given at' stack' m) long (found.placed refl) in
       let is : take size row' ≡ given = same_fronts size row' given (omega (arith, here.small)) long same in
       record {
         small = here.small;
@@ -264,23 +265,23 @@ module _ {list : Candidates} {at : List ℕ} {stack : List (List ℕ)} {size : �
 
   -- the row is found again
   pub again_standing : (given : List ℕ) {at' : List ℕ} {stack' : List (List ℕ)} {r : Bool} → given ≡ take size row
-      → Matched list.start list.end list.number list.count given at' stack' r → length at' ≡ 64 → Standing list at' stack' size wanted row
+      → Matched (start_of list) (end_of list) (number_of list) list.count given at' stack' r → length at' ≡ 64 → Standing list at' stack' size wanted row
   again_standing given {at'} {stack'} {r} e found wide =
       let yes-r : r ≡ true = found.answers ∙ ap (passes list) e ∙ here.passing in
       let at_j : (j : ℕ) → j < size → get_or row j 0 ≡ get_or given j 0 = λ j l. sym (get_or-take size row j 0 l) ∙ ap (λ xs. get_or xs j 0) (sym e) in
-      other_standing given row (subst (Matched list.start list.end list.number list.count given at' stack') yes-r found)
+      other_standing given row (subst (Matched (start_of list) (end_of list) (number_of list) list.count given at' stack') yes-r found)
       (ap length e ∙ length-take-le size row (omega (arith, here.small, here.wide_row)))
       (λ j l. ap (mark_of list.plan) (sym (at_j j l) ∙ sym (here.shows j l)) ∙ sym (list.classes (get_or at j 0) (here.inside j l)) ∙ here.levels j l)
       wide here.wide_row at_j
 
 -- the first row was filled in
-module _ (list : Candidates) {at : List ℕ} {stack : List (List ℕ)} {size : ℕ} (filled : Filled list.start list.end list.count [] at stack size)
+module _ (list : Candidates) {at : List ℕ} {stack : List (List ℕ)} {size : ℕ} (filled : Filled (start_of list) (end_of list) list.count [] at stack size)
     (wide : length at ≡ 64) (wanted row : List ℕ) (wide_wanted : length wanted ≡ 64) (wide_row : length row ≡ 64)
-    (classes : (j : ℕ) → j < size → get_or wanted j 0 ≡ get_or list.class (get_or at j 0) 0)
-    (links : (j : ℕ) → j < size → get_or row j 0 ≡ get_or list.number (get_or at j 0) 0) where
+    (classes : (j : ℕ) → j < size → get_or wanted j 0 ≡ class_of list (get_or at j 0))
+    (links : (j : ℕ) → j < size → get_or row j 0 ≡ number_of list (get_or at j 0)) where
   pub first_is : take size row ≡ first_of list.plan
   first_is = sym (numbers_front list at size (omega (arith, filled.few)) filled.inside row (omega (arith, filled.few)) (λ j l. sym (links j l)))
-      ∙ ap (map (value_at list.number)) filled.whole ∙ sym (first_same list)
+      ∙ ap (map (number_of list)) filled.whole ∙ sym (first_same list)
 
   first_size_is : size ≡ length (first_of list.plan)
   first_size_is = sym (length-take-le size row (omega (arith, filled.few))) ∙ ap length first_is
@@ -304,21 +305,21 @@ module _ (list : Candidates) {at : List ℕ} {stack : List (List ℕ)} {size : �
   }
 
 -- An empty row has the labels of an empty prefix.
-pub fronts_none : (start end row : List ℕ) (stack : List (List ℕ)) → ((u : ℕ) → u < 64 → get_or (get_or stack 0 []) u 0 ≡ u) → Fronts start end row stack 0
+pub fronts_none : (start end : ℕ → ℕ) (row : List ℕ) (stack : List (List ℕ)) → ((u : ℕ) → u < 64 → get_or (get_or stack 0 []) u 0 ≡ u) → Fronts start end row stack 0
 fronts_none start end row stack h j u l =
     let e : j ≡ 0 = omega (arith, l.0) in
-    ap (λ k. get_or (get_or stack k []) u 0) e ∙ h u l.1 ∙ ap (λ k. find (value_at start) (value_at end) (push [] (take k row)) u) (sym e)
+    ap (λ k. get_or (get_or stack k []) u 0) e ∙ h u l.1 ∙ ap (λ k. find start end (push [] (take k row)) u) (sym e)
 
 -- The links that were looked for are read out again.
 pub read_again : (list : Candidates) (given : List ℕ) {at : List ℕ} {stack : List (List ℕ)} (out : List ℕ) (size : ℕ)
-    → Matched list.start list.end list.number list.count given at stack true → length given ≡ size
-    → ((j : ℕ) → (0 ≤ j) × (j < size) → get_or out j 0 ≡ get_or list.number (get_or at j 0) 0) → (j : ℕ) → j < size → get_or out j 0 ≡ get_or given j 0
+    → Matched (start_of list) (end_of list) (number_of list) list.count given at stack true → length given ≡ size
+    → ((j : ℕ) → (0 ≤ j) × (j < size) → get_or out j 0 ≡ number_of list (get_or at j 0)) → (j : ℕ) → j < size → get_or out j 0 ≡ get_or given j 0
 read_again list given out size found long writes j l = writes j (omega arith, l) ∙ (found.placed refl).classes j (omega arith)
 
 pub placed_none : (list : Candidates) (row : List ℕ) (stack : List (List ℕ)) → ((u : ℕ) → u < 64 → get_or (get_or stack 0 []) u 0 ≡ u)
-    → Placed list.start list.end [] list.count [] row stack 0
+    → Placed (start_of list) (end_of list) (λ _. 0) list.count [] row stack 0
 placed_none list row stack h = record {
-  fronts = fronts_none list.start list.end row stack h;
+  fronts = fronts_none (start_of list) (end_of list) row stack h;
   inside = λ j l. absurd (omega arith);
   classes = λ j l. refl;
 }

@@ -16,9 +16,10 @@ use Rattle.forests.proofs.Trees.{tree_indep, tree_any_order}
 use Rattle.cheapest.specs.Completions.{sorted}
 use Rattle.cheapest.specs.Plans.{graph_of, mark_of, ranked_of}
 use Rattle.cheapest.specs.Positions.{CheapestIn}
-use Rattle.cheapest.specs.Scans.{value_at, ring, Crosses}
+use Rattle.cheapest.specs.Scans.{ring, Crosses}
 use Rattle.cheapest.specs.StandIns.{StandsIn}
 use Rattle.cheapest.specs.declared.candidates.Candidates.{Candidates}
+use Rattle.cheapest.specs.Candidates.{start_of, end_of, class_of, number_of}
 use Rattle.cheapest.proofs.Listed.{key_of, plan_fits, candidate_in}
 use Rattle.cheapest.proofs.Numbers.{numbers_lawful}
 use Rattle.cheapest.proofs.Orders.{ordered_take, ordered_append, ordered_rest, ordered_across}
@@ -82,18 +83,18 @@ module _ (list : Candidates) (row : List ℕ) (cheapest : CheapestIn list.plan r
       (λ x m. allowed_candidate g key row cheapest.row.tree.allowed x (leaving_within q row here x m))
       (indep_is_free (ClosesRing g) (closes_ring g) (chains g.from g.to) (leaving q row) rest_indep)
 
-  module _ (at : List ℕ) (small : (c : ℕ) → In c at → c < list.count) (shown : map (value_at list.number) at ≡ leaving q row) where
+  module _ (at : List ℕ) (small : (c : ℕ) → In c at → c < list.count) (shown : map (number_of list) at ≡ leaving q row) where
     -- rings with the rest, in candidates and in links
-    ring_rest : (c : ℕ) → c < list.count → closes_ring (graph_of list.plan) (push [] (leaving q row)) (get_or list.number c 0) ≡ ring list.start list.end (push [] at) c
+    ring_rest : (c : ℕ) → c < list.count → closes_ring (graph_of list.plan) (push [] (leaving q row)) (number_of list c) ≡ ring (start_of list) (end_of list) (push [] at) c
     ring_rest c l =
-        ap (λ S. closes_ring (graph_of list.plan) S (get_or list.number c 0)) (ap (push []) (sym shown) ∙ sym (map_push (value_at list.number) [] at))
+        ap (λ S. closes_ring (graph_of list.plan) S (number_of list c)) (ap (push []) (sym shown) ∙ sym (map_push (number_of list) [] at))
         ∙ ring_same list (push [] at) c (λ d m. elim (in_parts d at [] m) [ inl a ↦ small d a | inr b ↦ absurd b ]) l
 
-    apart_rest : (c : ℕ) → c < list.count → ring list.start list.end (push [] at) c ≡ false → ClosesRing (graph_of list.plan) (leaving q row) (get_or list.number c 0) → ⊥
+    apart_rest : (c : ℕ) → c < list.count → ring (start_of list) (end_of list) (push [] at) c ≡ false → ClosesRing (graph_of list.plan) (leaving q row) (number_of list c) → ⊥
     apart_rest c l f s =
         let g = graph_of list.plan in
         let C = chains g.from g.to in
-        let h = get_or list.number c 0 in
+        let h = number_of list c in
         both_ways (closes_ring g (push [] (leaving q row)) h) (ring_rest c l ∙ f)
         ((C.dec (push [] (leaving q row)) h).1 (wider (ClosesRing g) (closes_ring g) C (leaving q row) (push [] (leaving q row)) h (λ x m. in_turned x (leaving q row) [] m) s))
 
@@ -114,10 +115,10 @@ module _ (list : Candidates) (row : List ℕ) (cheapest : CheapestIn list.plan r
       different : Different row
       different = cheapest.row.tree.different
 
-      pub crosses_stands : (c : ℕ) → c < list.count → Crosses list.start list.end list.class list.number at e wanted c → StandsIn list.plan row e (get_or list.number c 0)
+      pub crosses_stands : (c : ℕ) → c < list.count → Crosses (start_of list) (end_of list) (class_of list) (number_of list) at e wanted c → StandsIn list.plan row e (number_of list c)
       crosses_stands c l x =
           let p = list.plan in
-          let h = get_or list.number c 0 in
+          let h = number_of list c in
           record {
             other = x.other;
             swaps = λ front back s.
@@ -127,7 +128,7 @@ module _ (list : Candidates) (row : List ℕ) (cheapest : CheapestIn list.plan r
           }
 
       pub stands_crosses : (h : ℕ) → StandsIn list.plan row e h
-          → (c : ℕ) × (c < list.count) × (get_or list.number c 0 ≡ h) × Crosses list.start list.end list.class list.number at e wanted c
+          → (c : ℕ) × (c < list.count) × (number_of list c ≡ h) × Crosses (start_of list) (end_of list) (class_of list) (number_of list) at e wanted c
       stands_crosses h stands =
           let p = list.plan in
           let g = graph_of p in
@@ -141,7 +142,7 @@ module _ (list : Candidates) (row : List ℕ) (cheapest : CheapestIn list.plan r
           let at_c = place h (ranked_of p) 0 m in
           let c = at_c.0 in
           let l : c < list.count = omega (arith, at_c.1, list.all) in
-          let is : get_or list.number c 0 ≡ h = list.numbers c l ∙ at_c.2 in
+          let is : number_of list c ≡ h = list.numbers c l ∙ at_c.2 in
           let level : mark_of p h ≡ mark_of p (get_or row q 0) = (swap_stands h (tree.allowed h (inl refl)) apart).0 swapped in (
             c,
             l,
@@ -149,10 +150,10 @@ module _ (list : Candidates) (row : List ℕ) (cheapest : CheapestIn list.plan r
             record {
               other = λ k. stands.other (sym is ∙ k);
               level = list.classes c l ∙ ap (mark_of p) is ∙ level ∙ ap (mark_of p) at_q ∙ mark;
-              apart = elim (cases_Bool (ring list.start list.end (push [] at) c)) [
+              apart = elim (cases_Bool (ring (start_of list) (end_of list) (push [] at) c)) [
                 | inl t ↦ absurd (apart (wider (ClosesRing g) (closes_ring g) C (push [] (leaving q row)) (leaving q row) h
                     (λ x k. elim (in_parts x (leaving q row) [] k) [ inl a ↦ a | inr b ↦ absurd b ])
-                    (subst (ClosesRing g (push [] (leaving q row))) is ((C.dec (push [] (leaving q row)) (get_or list.number c 0)).0 (ring_rest c l ∙ t)))))
+                    (subst (ClosesRing g (push [] (leaving q row))) is ((C.dec (push [] (leaving q row)) (number_of list c)).0 (ring_rest c l ∙ t)))))
                 | inr f ↦ f
               ];
             },

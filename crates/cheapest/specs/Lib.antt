@@ -4,7 +4,9 @@ pub mod Trees
 pub mod Completions
 pub mod Theorems
 pub mod Classes
+pub mod Places
 pub mod Plans
+pub mod Candidates
 pub mod Scans
 pub mod Positions
 pub mod StandIns

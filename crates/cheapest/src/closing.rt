@@ -14,17 +14,14 @@ impl Plan {
         ensures graph { graph_of result ≡ closing (graph_of self.now) (λ e. nat_eq e link) }
         ensures marks { mark_of result ≡ mark_of self.now }
     {
-        let mut usable = self.usable;
+        let mut links = self.links;
         if link < 512 {
-            usable[link as usize] = false;
+            links[link as usize].usable = false;
         }
         Plan {
             sites: self.sites,
             count: self.count,
-            from: self.from,
-            to: self.to,
-            mark: self.mark,
-            usable,
+            links,
             order: self.order,
         }
     }

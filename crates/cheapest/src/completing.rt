@@ -2,6 +2,7 @@
 
 ghost use Rattle.std.specs.Prelude.{◌≡◌, ◌<◌, ◌≤◌, length, nat_lt};
 ghost use Rattle.cheapest.specs.Scans.{Placed, Completed};
+ghost use Rattle.cheapest.specs.Candidates.{start_of, end_of, class_of};
 
 use crate::candidates::Candidates;
 use crate::walk::{Walk, apart, choose};
@@ -23,17 +24,17 @@ pub(crate) fn complete(
     first: usize,
 ) -> bool
     requires within { (i ≤ length wanted.now) × (length wanted.now < 64) }
-    requires placed { Placed list.now.start list.now.end list.now.class list.now.count wanted.now walk.old.at walk.old.labels i }
-    ensures { Completed list.now.start list.now.end list.now.class list.now.count wanted.now walk.old.at i first walk.new.at walk.new.labels result }
+    requires placed { Placed (start_of list.now) (end_of list.now) (class_of list.now) list.now.count wanted.now walk.old.at walk.old.labels i }
+    ensures { Completed (start_of list.now) (end_of list.now) (class_of list.now) list.now.count wanted.now walk.old.at i first walk.new.at walk.new.labels result }
 {
     let mut p = i;
     let mut c = first;
     while p < wanted.len() {
-        if c >= list.count || dearer(list.class[c], wanted[p]) {
+        if c >= list.count || dearer(list.items[c].class, wanted[p]) {
             return false;
         }
         if apart(list, walk, p, c) {
-            if list.class[c] != wanted[p] {
+            if list.items[c].class != wanted[p] {
                 return false;
             }
             choose(list, walk, p, c);

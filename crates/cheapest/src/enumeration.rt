@@ -4,7 +4,8 @@ ghost use Rattle.std.specs.Prelude.{◌≡◌, ℕ, ◌+◌, ◌<◌, ◌≤◌,
 ghost use Rattle.forests.specs.Closures.{push};
 ghost use Rattle.forests.specs.Labels.{find, below};
 ghost use Rattle.cheapest.specs.Plans.{mark_of, first_of};
-ghost use Rattle.cheapest.specs.Scans.{value_at, ring, matches};
+ghost use Rattle.cheapest.specs.Scans.{ring, matches};
+ghost use Rattle.cheapest.specs.Candidates.{start_of, end_of, class_of, number_of};
 
 use crate::candidates::Candidates;
 use crate::walk::Walk;
@@ -28,10 +29,10 @@ pub struct Rows {
     ghost whole: { size ≡ length (first_of list.plan) },
     ghost wants: { (j : ℕ) → j < size → slice_index wanted j ≡ mark_of list.plan (slice_index (first_of list.plan) j) },
     ghost inside: { (j : ℕ) → j < size → slice_index walk.at j < list.count },
-    ghost levels: { (j : ℕ) → j < size → slice_index list.class (slice_index walk.at j) ≡ slice_index wanted j },
-    ghost shows: { (j : ℕ) → j < size → slice_index list.number (slice_index walk.at j) ≡ slice_index row j },
-    ghost fronts: { (j u : ℕ) → (j ≤ size) × (u < 64) → slice_index (slice_index_or walk.labels j []) u ≡ find (value_at list.start) (value_at list.end) (push [] (take j walk.at)) u },
-    ghost passes: { matches (ring list.start list.end) (value_at list.number) [] (below list.count) (take size row) ≡ true },
+    ghost levels: { (j : ℕ) → j < size → class_of list (slice_index walk.at j) ≡ slice_index wanted j },
+    ghost shows: { (j : ℕ) → j < size → number_of list (slice_index walk.at j) ≡ slice_index row j },
+    ghost fronts: { (j u : ℕ) → (j ≤ size) × (u < 64) → slice_index (slice_index_or walk.labels j []) u ≡ find (start_of list) (end_of list) (push [] (take j walk.at)) u },
+    ghost passes: { matches (ring (start_of list) (end_of list)) (number_of list) [] (below list.count) (take size row) ≡ true },
     ghost begins: { (j : ℕ) → (on ≡ false) × (j < size) → slice_index row j ≡ slice_index (first_of list.plan) j },
     ghost joins: { on ≡ true → size + 1 ≡ list.plan.sites },
 }

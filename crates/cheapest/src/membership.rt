@@ -5,7 +5,8 @@ ghost use Rattle.weights.specs.Amounts.{numbers};
 ghost use Rattle.weights.specs.Scales.{sum_of};
 ghost use Rattle.cheapest.specs.Classes.{InSome};
 ghost use Rattle.cheapest.specs.Plans.{graph_of, mark_of, first_of};
-ghost use Rattle.cheapest.specs.Scans.{value_at, ring, grown};
+ghost use Rattle.cheapest.specs.Scans.{ring, grown};
+ghost use Rattle.cheapest.specs.Candidates.{start_of, end_of, class_of, number_of};
 
 use crate::candidates::Candidates;
 use crate::listing::list_candidates;
@@ -13,26 +14,26 @@ use crate::plan::Plan;
 use crate::searching::first_row;
 use crate::walk::{choose, empty};
 
-/// The sum of what the table says of the first `n` candidates of a row.
-fn total(table: &[u16; 512], at: &[u16; 64], n: usize) -> u32
+/// The sum of the marks of the first `n` candidates of a row.
+fn total(list: &Candidates, at: &[u16; 64], n: usize) -> u32
     requires few { n < 64 }
     requires inside { (j : ℕ) → j < n → slice_index at.now j < 512 }
-    ensures { result ≡ sum_of numbers (map (value_at table.now) (take n at.now)) }
+    ensures { result ≡ sum_of numbers (map (class_of list.now) (take n at.now)) }
 {
     let mut sum = 0;
     for j in 0..n {
-        sum += table[at[j] as usize] as u32;
+        sum += list.items[at[j] as usize].class as u32;
     }
     sum
 }
 
 /// The place of the link among the candidates, or their number if it is none of them.
 fn candidate_of(list: &Candidates, link: u16) -> usize
-    ensures found { result < list.now.count → slice_index list.now.number result ≡ link }
-    ensures none { list.now.count ≤ result → (c : ℕ) → c < list.now.count → slice_index list.now.number c ≢ link }
+    ensures found { result < list.now.count → number_of list.now result ≡ link }
+    ensures none { list.now.count ≤ result → (c : ℕ) → c < list.now.count → number_of list.now c ≢ link }
 {
     for c in 0..list.count {
-        if list.number[c] == link {
+        if list.items[c].number == link {
             return c;
         }
     }
@@ -47,19 +48,19 @@ fn least_total(list: &Candidates) -> (u32, usize)
 {
     let mut walk = empty();
     let size = first_row(list, &mut walk, 0);
-    (total(&list.class, &walk.at, size), size)
+    (total(list, &walk.at, size), size)
 }
 
 /// The total of the marks of candidate `c` and its greedy completion.
 fn total_with(list: &Candidates, c: usize) -> u32
     requires within { c < list.now.count }
-    requires apart { ring list.now.start list.now.end [] c ≡ false }
-    ensures { result ≡ sum_of numbers (map (value_at list.now.class) (grown list.now.start list.now.end list.now.count (c ∷ []) 0)) }
+    requires apart { ring (start_of list.now) (end_of list.now) [] c ≡ false }
+    ensures { result ≡ sum_of numbers (map (class_of list.now) (grown (start_of list.now) (end_of list.now) list.now.count (c ∷ []) 0)) }
 {
     let mut walk = empty();
     choose(list, &mut walk, 0, c);
     let size = first_row(list, &mut walk, 1);
-    total(&list.class, &walk.at, size)
+    total(list, &walk.at, size)
 }
 
 /// Whether a total is at most the least one.
@@ -77,7 +78,7 @@ fn some_has(list: &Candidates, link: u16) -> bool
     if c >= list.count {
         return false;
     }
-    if list.start[c] == list.end[c] {
+    if list.items[c].start == list.items[c].end {
         return false;
     }
     let (least, size) = least_total(list);

@@ -1,37 +1,22 @@
-//! Copies of what a table says of a row.
+//! Copies of what the candidates of a row say.
 
 ghost use Rattle.std.specs.Prelude.{◌≡◌, ℕ, ◌<◌, ◌≤◌, true, false, length, slice_index};
+ghost use Rattle.cheapest.specs.Candidates.{class_of, number_of};
+ghost use Rattle.cheapest.specs.Plans.{mark_of};
 
 use crate::candidates::Candidates;
 use crate::walk::Walk;
-
-/// Writes what the table says of the row's entries from place `i` up to place `n`.
-pub(crate) fn read_row<'a>(
-    table: &'a [u16; 512],
-    at: &'a [u16; 64],
-    i: usize,
-    n: usize,
-    out: &mut [u16; 64],
-)
-    requires few { n ≤ 64 }
-    requires inside { (j : ℕ) → j < n → slice_index at.now j < 512 }
-    ensures len { length out.new ≡ 64 }
-    ensures keeps { (j : ℕ) → j < i → slice_index out.new j ≡ slice_index out.old j }
-    ensures writes { (j : ℕ) → (i ≤ j) × (j < n) → slice_index out.new j ≡ slice_index table.now (slice_index at.now j) }
-{
-    for j in i..n {
-        out[j] = table[at[j] as usize];
-    }
-}
 
 /// Writes the classes of the row's first `n` candidates.
 pub(crate) fn read_classes<'a>(list: &'a Candidates, walk: &'a Walk, n: usize, out: &mut [u16; 64])
     requires few { n ≤ 64 }
     requires inside { (j : ℕ) → j < n → slice_index walk.now.at j < list.now.count }
     ensures len { length out.new ≡ 64 }
-    ensures writes { (j : ℕ) → j < n → slice_index out.new j ≡ slice_index list.now.class (slice_index walk.now.at j) }
+    ensures writes { (j : ℕ) → j < n → slice_index out.new j ≡ class_of list.now (slice_index walk.now.at j) }
 {
-    read_row(&list.class, &walk.at, 0, n, out);
+    for j in 0..n {
+        out[j] = list.items[walk.at[j] as usize].class;
+    }
 }
 
 /// Writes the links of the row's candidates from place `i` up to place `n`.
@@ -46,20 +31,22 @@ pub(crate) fn read_links<'a>(
     requires inside { (j : ℕ) → j < n → slice_index walk.now.at j < list.now.count }
     ensures len { length out.new ≡ 64 }
     ensures keeps { (j : ℕ) → j < i → slice_index out.new j ≡ slice_index out.old j }
-    ensures writes { (j : ℕ) → (i ≤ j) × (j < n) → slice_index out.new j ≡ slice_index list.now.number (slice_index walk.now.at j) }
+    ensures writes { (j : ℕ) → (i ≤ j) × (j < n) → slice_index out.new j ≡ number_of list.now (slice_index walk.now.at j) }
 {
-    read_row(&list.number, &walk.at, i, n, out);
+    for j in i..n {
+        out[j] = list.items[walk.at[j] as usize].number;
+    }
 }
 
 /// Whether the marks of the links are the wanted ones, place by place.
 pub(crate) fn has_marks<'a>(list: &'a Candidates, wanted: &'a [u16; 64], numbers: &[u16]) -> bool
     requires { length numbers.now ≤ 64 }
-    ensures bad { result ≡ false → ((j : ℕ) → j < length numbers.now → slice_index numbers.now j < 512) → ((j : ℕ) → j < length numbers.now → slice_index list.now.plan.mark (slice_index numbers.now j) ≡ slice_index wanted.now j) → ⊥ }
-    ensures good { result ≡ true → ((j : ℕ) → j < length numbers.now → slice_index list.now.plan.mark (slice_index numbers.now j) ≡ slice_index wanted.now j) }
+    ensures bad { result ≡ false → ((j : ℕ) → j < length numbers.now → slice_index numbers.now j < 512) → ((j : ℕ) → j < length numbers.now → mark_of list.now.plan (slice_index numbers.now j) ≡ slice_index wanted.now j) → ⊥ }
+    ensures good { result ≡ true → ((j : ℕ) → j < length numbers.now → mark_of list.now.plan (slice_index numbers.now j) ≡ slice_index wanted.now j) }
 {
     for j in 0..numbers.len() {
         let link = numbers[j] as usize;
-        if link >= 512 || list.plan.mark[link] != wanted[j] {
+        if link >= 512 || list.plan.links[link].mark != wanted[j] {
             return false;
         }
     }

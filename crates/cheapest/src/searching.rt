@@ -2,6 +2,7 @@
 
 ghost use Rattle.std.specs.Prelude.{◌≡◌, ◌+◌, ◌<◌, [], length, take};
 ghost use Rattle.cheapest.specs.Scans.{grown, Fronts, Placed, Moved, Matched, Filled};
+ghost use Rattle.cheapest.specs.Candidates.{start_of, end_of, class_of, number_of};
 
 use crate::candidates::Candidates;
 use crate::completing::complete;
@@ -10,9 +11,9 @@ use crate::walk::{Walk, apart, choose};
 /// Completes the first `i` candidates of the row greedily, by all candidates; how many the row then has.
 pub(crate) fn first_row(list: &Candidates, walk: &mut Walk, i: usize) -> usize
     requires few { i < 64 }
-    requires placed { Placed list.now.start list.now.end [] list.now.count [] walk.old.at walk.old.labels i }
-    requires short { length (grown list.now.start list.now.end list.now.count (take i walk.old.at) 0) < 64 }
-    ensures { Filled list.now.start list.now.end list.now.count (take i walk.old.at) walk.new.at walk.new.labels result }
+    requires placed { Placed (start_of list.now) (end_of list.now) (λ _. 0) list.now.count [] walk.old.at walk.old.labels i }
+    requires short { length (grown (start_of list.now) (end_of list.now) list.now.count (take i walk.old.at) 0) < 64 }
+    ensures { Filled (start_of list.now) (end_of list.now) list.now.count (take i walk.old.at) walk.new.at walk.new.labels result }
 {
     let mut p = i;
     for c in 0..list.count {
@@ -35,8 +36,8 @@ fn after(c: u16) -> usize
 /// row follows, and then the row is spoilt.
 pub(crate) fn next_row(list: &Candidates, wanted: &[u16], walk: &mut Walk) -> usize
     requires few { length wanted.now < 64 }
-    requires placed { Placed list.now.start list.now.end list.now.class list.now.count wanted.now walk.old.at walk.old.labels (length wanted.now) }
-    ensures { Moved list.now.start list.now.end list.now.class list.now.count wanted.now walk.old.at walk.new.at walk.new.labels result }
+    requires placed { Placed (start_of list.now) (end_of list.now) (class_of list.now) list.now.count wanted.now walk.old.at walk.old.labels (length wanted.now) }
+    ensures { Moved (start_of list.now) (end_of list.now) (class_of list.now) list.now.count wanted.now walk.old.at walk.new.at walk.new.labels result }
 {
     let mut i = wanted.len();
     while i > 0 {
@@ -53,8 +54,8 @@ pub(crate) fn next_row(list: &Candidates, wanted: &[u16], walk: &mut Walk) -> us
 /// they do. If not, the row is spoilt.
 pub(crate) fn place(list: &Candidates, numbers: &[u16], walk: &mut Walk) -> bool
     requires few { length numbers.now < 64 }
-    requires fronts { Fronts list.now.start list.now.end walk.old.at walk.old.labels 0 }
-    ensures { Matched list.now.start list.now.end list.now.number list.now.count numbers.now walk.new.at walk.new.labels result }
+    requires fronts { Fronts (start_of list.now) (end_of list.now) walk.old.at walk.old.labels 0 }
+    ensures { Matched (start_of list.now) (end_of list.now) (number_of list.now) list.now.count numbers.now walk.new.at walk.new.labels result }
 {
     let mut p = 0;
     let mut c = 0;
@@ -62,7 +63,7 @@ pub(crate) fn place(list: &Candidates, numbers: &[u16], walk: &mut Walk) -> bool
         if c >= list.count {
             return false;
         }
-        if list.number[c] == numbers[p] {
+        if list.items[c].number == numbers[p] {
             if !apart(list, walk, p, c) {
                 return false;
             }
@@ -82,8 +83,8 @@ pub(crate) fn follow<'a>(
     walk: &mut Walk,
 ) -> usize
     requires few { size < 64 }
-    requires placed { Placed list.now.start list.now.end list.now.class list.now.count (take size wanted.now) walk.old.at walk.old.labels size }
-    ensures { Moved list.now.start list.now.end list.now.class list.now.count (take size wanted.now) walk.old.at walk.new.at walk.new.labels result }
+    requires placed { Placed (start_of list.now) (end_of list.now) (class_of list.now) list.now.count (take size wanted.now) walk.old.at walk.old.labels size }
+    ensures { Moved (start_of list.now) (end_of list.now) (class_of list.now) list.now.count (take size wanted.now) walk.old.at walk.new.at walk.new.labels result }
 {
     next_row(list, &wanted[0..size], walk)
 }
@@ -96,8 +97,8 @@ pub(crate) fn return_to<'a>(
     walk: &mut Walk,
 ) -> bool
     requires few { size < 64 }
-    requires fronts { Fronts list.now.start list.now.end walk.old.at walk.old.labels 0 }
-    ensures { Matched list.now.start list.now.end list.now.number list.now.count (take size row.now) walk.new.at walk.new.labels result }
+    requires fronts { Fronts (start_of list.now) (end_of list.now) walk.old.at walk.old.labels 0 }
+    ensures { Matched (start_of list.now) (end_of list.now) (number_of list.now) list.now.count (take size row.now) walk.new.at walk.new.labels result }
 {
     place(list, &row[0..size], walk)
 }

@@ -5,6 +5,7 @@ ghost use Rattle.forests.specs.Lists.{In};
 ghost use Rattle.cheapest.specs.Positions.{plan_of, is_on, row_of};
 ghost use Rattle.cheapest.specs.Scans.{Fronts, Crosses};
 ghost use Rattle.cheapest.specs.StandIns.{StandsIn, FirstStandIn};
+ghost use Rattle.cheapest.specs.Candidates.{start_of, end_of, class_of, number_of};
 
 use crate::candidates::Candidates;
 use crate::enumeration::Rows;
@@ -43,13 +44,13 @@ fn leave_out(row: &[u16; 64], q: usize) -> [u16; 64]
 /// candidates of the row, or the number of candidates if there is none.
 fn first_across(list: &Candidates, walk: &Walk, p: usize, link: u16, class: u16) -> usize
     requires few { p < 64 }
-    requires fronts { Fronts list.now.start list.now.end walk.now.at walk.now.labels p }
-    ensures found { result < list.now.count → Crosses list.now.start list.now.end list.now.class list.now.number (take p walk.now.at) link class result }
-    ensures none { (c : ℕ) → c < result → c < list.now.count → Crosses list.now.start list.now.end list.now.class list.now.number (take p walk.now.at) link class c → ⊥ }
+    requires fronts { Fronts (start_of list.now) (end_of list.now) walk.now.at walk.now.labels p }
+    ensures found { result < list.now.count → Crosses (start_of list.now) (end_of list.now) (class_of list.now) (number_of list.now) (take p walk.now.at) link class result }
+    ensures none { (c : ℕ) → c < result → c < list.now.count → Crosses (start_of list.now) (end_of list.now) (class_of list.now) (number_of list.now) (take p walk.now.at) link class c → ⊥ }
     ensures far { result ≤ list.now.count }
 {
     for c in 0..list.count {
-        if list.number[c] != link && list.class[c] == class {
+        if list.items[c].number != link && list.items[c].class == class {
             if apart(list, walk, p, c) {
                 return c;
             }
@@ -86,6 +87,6 @@ impl Rows {
         if c >= self.list.count {
             return None;
         }
-        Some(self.list.number[c])
+        Some(self.list.items[c].number)
     }
 }

@@ -3,6 +3,7 @@
 ghost use Rattle.std.specs.Prelude.{◌≡◌, ℕ, ◌+◌, ◌<◌, not, [], length, take, slice_index, slice_index_or, slice_set};
 ghost use Rattle.forests.specs.Closures.{push};
 ghost use Rattle.cheapest.specs.Scans.{ring, Fronts};
+ghost use Rattle.cheapest.specs.Candidates.{start_of, end_of};
 
 use crate::candidates::Candidates;
 use forests::merged;
@@ -34,23 +35,23 @@ pub(crate) fn empty() -> Walk
 /// Whether candidate `c` closes no ring with the first `p` candidates of the row.
 pub(crate) fn apart(list: &Candidates, walk: &Walk, p: usize, c: usize) -> bool
     requires within { (p < 64) × (c < list.now.count) }
-    requires fronts { Fronts list.now.start list.now.end walk.now.at walk.now.labels p }
-    ensures { result ≡ not (ring list.now.start list.now.end (push [] (take p walk.now.at)) c) }
+    requires fronts { Fronts (start_of list.now) (end_of list.now) walk.now.at walk.now.labels p }
+    ensures { result ≡ not (ring (start_of list.now) (end_of list.now) (push [] (take p walk.now.at)) c) }
 {
-    let start = list.start[c] as usize;
-    let end = list.end[c] as usize;
+    let start = list.items[c].start as usize;
+    let end = list.items[c].end as usize;
     walk.labels[p][start] != walk.labels[p][end]
 }
 
 /// Puts candidate `c` at place `p` of the row.
 pub(crate) fn choose(list: &Candidates, walk: &mut Walk, p: usize, c: usize)
     requires within { (p + 1 < 64) × (c < list.now.count) }
-    requires fronts { Fronts list.now.start list.now.end walk.old.at walk.old.labels p }
+    requires fronts { Fronts (start_of list.now) (end_of list.now) walk.old.at walk.old.labels p }
     ensures row { walk.new.at ≡ slice_set walk.old.at p c }
-    ensures fronts { Fronts list.now.start list.now.end walk.new.at walk.new.labels (p + 1) }
+    ensures fronts { Fronts (start_of list.now) (end_of list.now) walk.new.at walk.new.labels (p + 1) }
 {
-    let start = list.start[c] as usize;
-    let end = list.end[c] as usize;
+    let start = list.items[c].start as usize;
+    let end = list.items[c].end as usize;
     let labels = walk.labels[p];
     walk.labels[p + 1] = merged(labels, labels[start], labels[end]);
     walk.at[p] = c as u16;

@@ -1,5 +1,6 @@
 use Rattle.std.proofs.Common.{◌≡◌, ℕ, ◌<◌, get_or}
 use Rattle.cheapest.proofs.membership.candidate_of.Given as goal
+use Rattle.cheapest.specs.Candidates.{number_of}
 
 abbrev pub invariant-loop-c : goal.invariant-loop-c
-invariant-loop-c l = (k : ℕ) → k < l.c → get_or l.list.number k 0 ≡ l.link → ⊥
+invariant-loop-c l = (k : ℕ) → k < l.c → number_of l.list k ≡ l.link → ⊥

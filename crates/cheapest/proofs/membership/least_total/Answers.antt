@@ -1,6 +1,7 @@
 use Rattle.std.proofs.Common.{ap, ◌∙◌, lit<}
 use Rattle.weights.specs.Amounts.{numbers}
 use Rattle.weights.specs.Scales.{sum_of}
+use Rattle.cheapest.specs.Candidates.{start_of, end_of}
 use Rattle.cheapest.proofs.Belonging.{filled_marks, filled_size}
 use Rattle.cheapest.proofs.Filling.{picks_short}
 use Rattle.cheapest.proofs.Listed.{ends_fit}
@@ -14,7 +15,7 @@ first_row-size-requires c =
     record {
       few = lit< tt;
       placed = placed_none list walk.at walk.labels c.empty-walk.ensures;
-      short = picks_short list.start list.end list.count (ends_fit list);
+      short = picks_short (start_of list) (end_of list) list.count (ends_fit list);
     }
 
 pub returns : goal.returns

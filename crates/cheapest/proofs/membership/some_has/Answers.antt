@@ -3,6 +3,7 @@ use Rattle.std.proofs.lemmas.Bool.{eq-eqb, ne_eqb}
 use Rattle.weights.specs.Amounts.{numbers}
 use Rattle.cheapest.specs.Classes.{InSome}
 use Rattle.cheapest.specs.Plans.{graph_of, mark_of}
+use Rattle.cheapest.specs.Candidates.{number_of}
 use Rattle.cheapest.proofs.Belonging.{loop_none, some_by_total, none_some, apart_some}
 use Rattle.cheapest.proofs.Stances.{refused}
 use Rattle.cheapest.proofs.membership.some_has.Goals as goal
@@ -30,6 +31,6 @@ returns c =
     let here = c.if-c-list.false in
     let least = c.least_total-least.ensures in
     subst (λ (e : ℕ). Decides c.is_least.result (InSome (graph_of list.plan) numbers (mark_of list.plan) (e ∷ []))) (c.candidate_of-c.ensures.found here)
-    (subst (λ (b : Bool). Decides b (InSome (graph_of list.plan) numbers (mark_of list.plan) (get_or list.number c.candidate_of-c.result 0 ∷ []))) (sym c.is_least.ensures)
+    (subst (λ (b : Bool). Decides b (InSome (graph_of list.plan) numbers (mark_of list.plan) (number_of list c.candidate_of-c.result ∷ []))) (sym c.is_least.ensures)
     (some_by_total list c.candidate_of-c.result here (ne_eqb _ _ c.if-list-c.false)
     (omega (arith, least.size, c.if-size-list.false)) c.total_with.result c.least_total-least.result.0 c.total_with.ensures least.total))

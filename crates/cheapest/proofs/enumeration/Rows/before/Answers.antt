@@ -4,6 +4,7 @@ use Rattle.cheapest.proofs.Listed.{ends_fit}
 use Rattle.cheapest.proofs.Standings.{placed_none}
 use Rattle.cheapest.proofs.Stances.{first_owed}
 use Rattle.cheapest.proofs.enumeration.Rows.before.Goals as goal
+use Rattle.cheapest.specs.Candidates.{start_of, end_of}
 
 pub first_row-size-requires : goal.first_row-size-requires
 first_row-size-requires c =
@@ -12,7 +13,7 @@ first_row-size-requires c =
     record {
       few = lit< tt;
       placed = placed_none list walk.at walk.labels c.empty-walk.ensures;
-      short = picks_short list.start list.end list.count (ends_fit list);
+      short = picks_short (start_of list) (end_of list) list.count (ends_fit list);
     }
 
 pub invariant_of-result : goal.invariant_of-result
