@@ -18,11 +18,11 @@ abbrev link : {W : Type 0} → ℕ → ℕ → W → Link W
 link from to weight = record { from = from; to = to; weight = weight }
 
 -- what was read is written again
-pub read_accepted : (letter width size room : ℕ) (h : Header) {W : Type 0} (links : List (Link W)) → length links ≡ h.links → 9 ≤ size → Sound letter width size room h → first_of (write_rules width h.sites (length links) size) ≡ None
+pub read_accepted : (letter width size room : ℕ) (h : Header) {W : Type 0} (links : List (Link W)) → length links ≡ h.counts.links → 9 ≤ size → Sound letter width size room h → first_of (write_rules width h.counts.sites (length links) size) ≡ None
 read_accepted letter width size room h links many long sound =
-    let sites = h.sites in
+    let sites = h.counts.sites in
     let few = sound.fewer in
-    let bytes : length links * (2 + width) ≡ h.links * (2 + width) = ap (λ n. n * (2 + width)) many in
+    let bytes : length links * (2 + width) ≡ h.counts.links * (2 + width) = ap (λ n. n * (2 + width)) many in
     let fits : 9 + length links * (2 + width) ≤ size = (let a = sound.counted in let b = sound.records in omega arith) in
     cond-false _ _ _ (not_from_true _ (and_from (leb 1 sites) (leb sites 64) (le-leb 1 sites sound.some) (le-leb sites 64 sound.few)))
     ∙ cond-false _ _ _ (le-ltb 512 (length links) (omega arith))
@@ -36,15 +36,15 @@ back_16 : (n : ℕ) → n / 256 * 256 + n % 256 ≡ n
 back_16 n = omega arith
 
 -- no rule refuses a header that is sound
-accepted_fields : (letter width size room : ℕ) (h : Header) → Sound letter width size room h → first_of (field_rules letter width size room h.length h.version h.kind h.sites h.links) ≡ None
+accepted_fields : (letter width size room : ℕ) (h : Header) → Sound letter width size room h → first_of (field_rules letter width size room h.length h.version h.kind h.counts.sites h.counts.links) ≡ None
 accepted_fields letter width size room h s =
     cond-false _ _ _ (not_from_true _ (eq-eqb h.length (size - 4) s.counted))
     ∙ cond-false _ _ _ (not_from_true _ (eq-eqb h.version 1 s.version))
     ∙ cond-false _ _ _ (not_from_true _ (eq-eqb h.kind letter s.kind))
-    ∙ cond-false _ _ _ (not_from_true _ (and_from (leb 1 h.sites) (leb h.sites 64) (le-leb 1 h.sites s.some) (le-leb h.sites 64 s.few)))
-    ∙ cond-false _ _ _ (le-ltb 512 h.links s.fewer)
-    ∙ cond-false _ _ _ (not_from_true _ (eq-eqb h.length (5 + h.links * (2 + width)) s.records))
-    ∙ cond-false _ _ _ (le-ltb room h.links s.fits)
+    ∙ cond-false _ _ _ (not_from_true _ (and_from (leb 1 h.counts.sites) (leb h.counts.sites 64) (le-leb 1 h.counts.sites s.some) (le-leb h.counts.sites 64 s.few)))
+    ∙ cond-false _ _ _ (le-ltb 512 h.counts.links s.fewer)
+    ∙ cond-false _ _ _ (not_from_true _ (eq-eqb h.length (5 + h.counts.links * (2 + width)) s.records))
+    ∙ cond-false _ _ _ (le-ltb room h.counts.links s.fits)
 
 module _ (letter width : ℕ) {W : Type 0} (bytes : W → List ℕ) where
   -- what was written is read again

@@ -39,15 +39,15 @@ module _ (letter width : ℕ) {W : Type 0} (bytes : W → List ℕ) (sheet : Lis
       ∙ parts sheet long
 
 -- what is read is the sheet of the links that were filled in, whatever stands behind them
-pub read_whole : (letter width : ℕ) {W : Type 0} (bytes : W → List ℕ) (sheet rest : List ℕ) (offset size room : ℕ) (h : Header) (filled behind : List (Link W)) → ((k : ℕ) → get_or sheet k 0 < 256) → Taken sheet h rest offset → Sound letter width size room h → length filled ≡ h.links → flat_map (record_of bytes) filled ≡ rest → sheet_of letter width bytes h.sites (take h.links (filled ++ behind)) ≡ sheet
+pub read_whole : (letter width : ℕ) {W : Type 0} (bytes : W → List ℕ) (sheet rest : List ℕ) (offset size room : ℕ) (h : Header) (filled behind : List (Link W)) → ((k : ℕ) → get_or sheet k 0 < 256) → Taken sheet h rest offset → Sound letter width size room h → length filled ≡ h.counts.links → flat_map (record_of bytes) filled ≡ rest → sheet_of letter width bytes h.counts.sites (take h.counts.links (filled ++ behind)) ≡ sheet
 read_whole letter width bytes sheet rest offset size room h filled behind small taken sound many records =
     let fields = taken.fields in
     let counted : length_field sheet ≡ 5 + length filled * (2 + width) =
     sym (ap (λ (x : Header). x.length) fields) ∙ sound.records ∙ ap (λ n. 5 + n * (2 + width)) (sym many) in
-    ap (λ s. sheet_of letter width bytes s (take h.links (filled ++ behind))) (ap (λ (x : Header). x.sites) fields)
-    ∙ ap (sheet_of letter width bytes (get_or sheet 6 0)) (take_at filled behind h.links many)
+    ap (λ s. sheet_of letter width bytes s (take h.counts.links (filled ++ behind))) (ap (λ (x : Header). x.counts.sites) fields)
+    ∙ ap (sheet_of letter width bytes (get_or sheet 6 0)) (take_at filled behind h.counts.links many)
     ∙ sheet_from_fields letter width bytes sheet filled small taken.long counted
     (sym (ap (λ (x : Header). x.version) fields) ∙ sound.version)
     (sym (ap (λ (x : Header). x.kind) fields) ∙ sound.kind)
-    (sym (ap (λ (x : Header). x.links) fields) ∙ sym many)
+    (sym (ap (λ (x : Header). x.counts.links) fields) ∙ sym many)
     (records ∙ taken.after)

@@ -9,8 +9,7 @@ header_of sheet = record {
   length = length_field sheet;
   version = slice_index sheet 4;
   kind = slice_index sheet 5;
-  sites = slice_index sheet 6;
-  links = links_field sheet;
+  counts = record { sites = slice_index sheet 6; links = links_field sheet };
 }
 
 -- the header is read, and what follows it is left to read from its start

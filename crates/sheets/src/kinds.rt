@@ -38,33 +38,6 @@ pub trait SheetKind: WeightKind {
     ghost determined: { (x y : Self) → bytes x ≡ bytes y → x ≡ y };
 }
 
-/// The metres of four bytes.
-fn metres_of(encoded: &[u8]) -> Metres
-    requires { length encoded.now ≡ 4 }
-    ensures { be32 result.0 ≡ encoded.now }
-{
-    Metres(u32::from_be_bytes([encoded[0], encoded[1], encoded[2], encoded[3]]))
-}
-
-/// The crossings of two bytes.
-fn crossings_of(encoded: &[u8]) -> Crossings
-    requires { length encoded.now ≡ 2 }
-    ensures { be16 result.0 ≡ encoded.now }
-{
-    Crossings(u16::from_be_bytes([encoded[0], encoded[1]]))
-}
-
-/// The crossings of two bytes with the metres of four.
-fn pair_of(encoded: &[u8]) -> Pair<Crossings, Metres>
-    requires { length encoded.now ≡ 6 }
-    ensures { be16 result.first.0 ++ be32 result.second.0 ≡ encoded.now }
-{
-    Pair {
-        first: crossings_of(&encoded[0..2]),
-        second: metres_of(&encoded[2..6]),
-    }
-}
-
 /// Kind W: four bytes of metres.
 impl SheetKind for Metres {
     ghost letter = { 87 };
@@ -86,10 +59,7 @@ impl SheetKind for Metres {
     }
 
     fn decode(encoded: &[u8]) -> Option<Metres> {
-        if encoded.len() == 4 {
-            return Some(metres_of(encoded));
-        }
-        None
+        Some(Metres(u32::from_be_bytes(encoded.try_into().ok()?)))
     }
 
     fn encode(self, places: &mut [u8]) {
@@ -120,17 +90,18 @@ impl SheetKind for Pair<Crossings, Metres> {
     }
 
     fn decode(encoded: &[u8]) -> Option<Pair<Crossings, Metres>> {
-        if encoded.len() == 6 {
-            return Some(pair_of(encoded));
-        }
-        None
+        let (crossings, metres) = encoded.split_first_chunk()?;
+        Some(Pair {
+            first: Crossings(u16::from_be_bytes(*crossings)),
+            second: Metres::decode(metres)?,
+        })
     }
 
     fn encode(self, places: &mut [u8]) {
         if places.len() == 6 {
-            let [a, b] = self.first.0.to_be_bytes();
-            let [c, d, e, f] = self.second.0.to_be_bytes();
-            places.copy_from_slice(&[a, b, c, d, e, f]);
+            let (crossings, metres) = places.split_at_mut(2);
+            crossings.copy_from_slice(&self.first.0.to_be_bytes());
+            self.second.encode(metres);
         }
     }
 }

@@ -16,10 +16,8 @@ use networks::{Link, Network, Refusal};
 pub fn load<K: SheetKind>(sheet: &[u8], links: &mut [Link<K>]) -> Result<Network<K>, Refusal>
     ensures { MatchOption (first_of (read_rules K.SheetKind.letter K.SheetKind.width sheet.now (length links.old))) (Opened K.SheetKind.letter K.SheetKind.width K.SheetKind.bytes sheet.now links.old links.new result) (λ report. (refusal_of result ≡ Some report) × (links.new ≡ links.old)) }
 {
-    match read(sheet, links) {
-        Ok(counts) => open_first(counts, links),
-        Err(refusal) => Err(refusal),
-    }
+    let counts = read(sheet, links)?;
+    open_first(counts, links)
 }
 
 /// Opens the first of the links.
@@ -28,5 +26,5 @@ fn open_first<K: SheetKind>(counts: Counts, links: &[Link<K>]) -> Result<Network
     ensures refuses { refusal_of result ≡ first_of (open_rules counts.sites (take counts.links links.now)) }
     ensures opens { IfOk result (λ n. (sites_of n ≡ counts.sites) × (links_of n ≡ take counts.links links.now) × ((e : ℕ) → closed_in n e ≡ false)) }
 {
-    Network::open(counts.sites, &links[0..counts.links as usize])
+    Network::open(counts.sites, &links[..counts.links as usize])
 }

@@ -6,6 +6,7 @@ ghost use Rattle.sheets.specs.Layout.{record_of};
 ghost use Rattle.sheets.specs.Headers.{Taken};
 
 use crate::kinds::SheetKind;
+use crate::reading::Counts;
 use networks::Link;
 
 /// What a sheet says of itself before its records.
@@ -15,8 +16,7 @@ pub(crate) struct Header {
     pub(crate) length: u32,
     pub(crate) version: u8,
     pub(crate) kind: u8,
-    pub(crate) sites: u8,
-    pub(crate) links: u16,
+    pub(crate) counts: Counts,
 }
 
 /// The records of a sheet, read up to an offset.
@@ -37,8 +37,10 @@ pub(crate) fn take_header(sheet: &[u8]) -> Option<(Header, Reader<'_>)>
         length: u32::from_be_bytes([*a, *b, *c, *d]),
         version: *version,
         kind: *kind,
-        sites: *sites,
-        links: u16::from_be_bytes([*high, *low]),
+        counts: Counts {
+            sites: *sites,
+            links: u16::from_be_bytes([*high, *low]),
+        },
     };
     let reader = Reader {
         bytes: rest,
@@ -70,10 +72,7 @@ impl Reader<'_> {
         let start = self.offset;
         let end = start + K::weight_width() as usize;
         self.offset = end;
-        match K::decode(&self.bytes[start..end]) {
-            Some(weight) => weight,
-            None => unreachable(),
-        }
+        K::decode(&self.bytes[start..end]).unwrap()
     }
 
     /// The next record.

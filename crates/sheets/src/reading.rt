@@ -31,22 +31,18 @@ pub fn read<K: SheetKind>(sheet: &[u8], links: &mut [Link<K>]) -> Result<Counts,
     let Some((header, mut records)) = take_header(sheet) else {
         return Err(Refusal::ShortSheet(sheet.len()));
     };
-    if let Err(refusal) = check_fields::<K>(&header, sheet.len(), links.len()) {
-        return Err(refusal);
-    }
-    records.fill(&mut links[0..header.links as usize]);
-    Ok(Counts {
-        sites: header.sites,
-        links: header.links,
-    })
+    check_fields::<K>(&header, sheet.len(), links.len())?;
+    records.fill(&mut links[..header.counts.links as usize]);
+    Ok(header.counts)
 }
 
 /// Refuses a header that does not fit the kind or the size of the sheet, and more links than there is room for.
 fn check_fields<K: SheetKind>(header: &Header, size: usize, room: usize) -> Result<(), Refusal>
-    ensures { refusal_of result ≡ first_of (field_rules K.SheetKind.letter K.SheetKind.width size room header.now.length header.now.version header.now.kind header.now.sites header.now.links) }
+    ensures { refusal_of result ≡ first_of (field_rules K.SheetKind.letter K.SheetKind.width size room header.now.length header.now.version header.now.kind header.now.counts.sites header.now.counts.links) }
 {
     let length = header.length as usize;
-    let links = header.links as usize;
+    let sites = header.counts.sites;
+    let links = header.counts.links as usize;
     if length != size.saturating_sub(4) {
         return Err(Refusal::WrongLength);
     }
@@ -56,7 +52,7 @@ fn check_fields<K: SheetKind>(header: &Header, size: usize, room: usize) -> Resu
     if header.kind != K::kind_byte() {
         return Err(Refusal::OtherKind);
     }
-    if header.sites < 1 || header.sites > 64 {
+    if !(1..=64).contains(&sites) {
         return Err(Refusal::SheetSiteCount);
     }
     if links > 512 {

@@ -22,7 +22,7 @@ pub fn write<K: SheetKind>(sites: u8, links: &[Link<K>], sheet: &mut [u8]) -> Re
     ensures accepted { OnOk result ((room : ℕ) → length links.now ≤ room → first_of (read_rules K.SheetKind.letter K.SheetKind.width (sheet_of K.SheetKind.letter K.SheetKind.width K.SheetKind.bytes sites links.now) room) ≡ None) }
     ensures alone { OnOk result ((n : ℕ) (others : List (Link K)) → sheet_of K.SheetKind.letter K.SheetKind.width K.SheetKind.bytes n others ≡ sheet_of K.SheetKind.letter K.SheetKind.width K.SheetKind.bytes sites links.now → (n ≡ sites) × (others ≡ links.now)) }
 {
-    if sites < 1 || sites > 64 {
+    if !(1..=64).contains(&sites) {
         return Err(Refusal::SiteCount);
     }
     let count = links.len();
@@ -33,7 +33,7 @@ pub fn write<K: SheetKind>(sites: u8, links: &[Link<K>], sheet: &mut [u8]) -> Re
     if sheet.len() < size {
         return Err(Refusal::ShortList(Layer::Sheet, sheet.len()));
     }
-    put_header::<K>(sites, count as u16, &mut sheet[0..9]);
+    put_header::<K>(sites, count as u16, &mut sheet[..9]);
     put_records(links, &mut sheet[9..size]);
     Ok(size)
 }
@@ -56,8 +56,7 @@ fn put_record<K: SheetKind>(link: Link<K>, places: &mut [u8])
 {
     places[0] = link.from;
     places[1] = link.to;
-    let end = places.len();
-    link.weight.encode(&mut places[2..end]);
+    link.weight.encode(&mut places[2..]);
 }
 
 /// Writes one record after the other.
@@ -66,8 +65,9 @@ fn put_records<K: SheetKind>(links: &[Link<K>], places: &mut [u8])
     ensures { places.new ≡ flat_map (record_of K.SheetKind.bytes) links.now }
 {
     let width = 2 + K::weight_width() as usize;
-    for number in 0..links.len() {
+    // No contract says what a slice ends as whose `chunks_exact_mut` were written, so each place is found by its number.
+    for (number, link) in links.iter().enumerate() {
         let start = number * width;
-        put_record(links[number], &mut places[start..start + width]);
+        put_record(*link, &mut places[start..start + width]);
     }
 }
