@@ -1,8 +1,8 @@
 -- A plan with other links open: the ends, the marks and the ranking stay.
-use Rattle.std.proofs.Common.{◌≡◌, ℕ, ◌<◌, ◌≤◌, Bool, true, false, not, ◌&&◌, eqb, List, length, get_or, set, sym, refl, ap, ◌∙◌, subst, inl, inr, arith}
+use Rattle.std.proofs.Common.{◌≡◌, ℕ, ◌+◌, ◌<◌, ◌≤◌, Bool, true, false, not, ◌&&◌, eqb, List, length, get_or, set, sym, refl, ap, ◌∙◌, subst, inl, inr, arith, below_more}
 use mathlib.Core.Path.{fun_ext}
 use Rattle.std.proofs.lemmas.List.{length-set, get_or-set_same, get_or-set_other, get_or_past}
-use Rattle.std.proofs.lemmas.Bool.{cases_eq, eq-eqb, ne_eqb, and_right, not_from_true}
+use Rattle.std.proofs.lemmas.Bool.{cases_eq, cases_lt, eq-eqb, ne_eqb, and_right, not_from_true}
 use Rattle.weights.specs.Amounts.{numbers}
 use Rattle.forests.specs.Graphs.{Graph}
 use Rattle.cheapest.specs.Ranks.{rank_of}
@@ -50,6 +50,41 @@ module _ (p : Plan) {links : List PlanLink} {usable : ℕ → Bool} (h : Reopene
     ends = λ e l. subst (λ (x : ℕ). x < p.sites) (sym (ap (λ (x : PlanLink). x.to) (h.same e))) (p.ends e l);
     inside = p.inside;
     ranks = λ k l. ap (λ (w : ℕ → ℕ). rank_of numbers w p.count (get_or p.order k 0)) reopened_marks ∙ p.ranks k l;
+  }
+
+-- the first i links have been gone through
+pub record Reopening (links links' : List PlanLink) (usable : ℕ → Bool) (i : ℕ) : Type 0 where
+  pub wide : length links' ≡ length links
+  pub done : (e : ℕ) → e < i → link_at links' e ≡ opened (link_at links e) (usable e)
+  pub rest : (e : ℕ) → i ≤ e → link_at links' e ≡ link_at links e
+
+module _ (links : List PlanLink) (usable : ℕ → Bool) where
+  pub reopening_none : Reopening links links usable 0
+  reopening_none = record { wide = refl; done = λ e l. absurd (omega arith); rest = λ e l. refl }
+
+  pub reopening_more : {links' links'' : List PlanLink} {i : ℕ} → Reopening links links' usable i → i < length links'
+      → links'' ≡ set links' i (opened (link_at links' i) (usable i)) → Reopening links links'' usable (i + 1)
+  reopening_more {links'} {links''} {i} here l is =
+      let new = opened (link_at links' i) (usable i) in
+      subst (λ (ls : List PlanLink). Reopening links ls usable (i + 1)) (sym is) (record {
+        wide = length-set links' i new ∙ here.wide;
+        done = below_more (λ e. link_at (set links' i new) e ≡ opened (link_at links e) (usable e)) i
+            (λ e k. get_or-set_other links' i e new no_link (omega arith) ∙ here.done e k)
+            (get_or-set_same links' i new no_link l ∙ ap (λ (x : PlanLink). opened x (usable i)) (here.rest i (omega arith)));
+        rest = λ e k. get_or-set_other links' i e new no_link (omega arith) ∙ here.rest e (omega arith);
+      })
+
+  pub reopening_all : {links' : List PlanLink} {i : ℕ} → Reopening links links' usable i → length links ≤ i
+      → ((e : ℕ) → length links ≤ e → usable e ≡ false) → Reopened links links' usable
+  reopening_all {links'} {i} here ends past = record {
+    wide = here.wide;
+    same = λ e.
+        elim (cases_lt e i) [
+          | inl l ↦ here.done e l
+          | inr m ↦ here.rest e m ∙ get_or_past links e no_link (omega arith)
+              ∙ ap (λ (x : PlanLink). opened x false) (sym (get_or_past links e no_link (omega arith)))
+              ∙ ap (opened (link_at links e)) (sym (past e (omega arith)))
+        ];
   }
 
 -- closing one link

@@ -5,6 +5,7 @@ pub mod Counts
 pub mod Faults
 pub mod FirstFaults
 pub mod Filled
+pub mod MarkedLinks
 pub mod Injections
 pub mod Inside
 pub mod Marks

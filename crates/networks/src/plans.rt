@@ -2,6 +2,7 @@
 
 ghost use Rattle.std.specs.Prelude.{◌≡◌, ℕ, ◌<◌, ◌≤◌, false, length, slice_index, slice_index_or};
 ghost use Rattle.weights.specs.Amounts.{numbers};
+ghost use Rattle.cheapest.specs.Places.{link_at};
 ghost use Rattle.cheapest.specs.Plans.{graph_of, mark_of};
 ghost use Rattle.cheapest.specs.Ranks.{Alike};
 ghost use Rattle.networks.specs.Closures.{closed_at};
@@ -13,6 +14,7 @@ use crate::links::Link;
 use crate::networks::Network;
 use crate::ranking::rank_links;
 use cheapest::Plan;
+use cheapest::plan::PlanLink;
 use weights::WeightKind;
 
 /// How many links have lower weight than this one.
@@ -29,53 +31,31 @@ fn mark<K: WeightKind>(links: &[Link<K>], link: usize) -> usize
     lighter
 }
 
-/// The mark of every link.
-fn marks<K: WeightKind>(links: &[Link<K>]) -> [u16; 512]
+/// The links with their marks, in the first of 512 places. Those that are open may be chosen.
+fn marked_links<K: WeightKind>(links: &[Link<K>], closed: &Closed) -> [PlanLink; 512]
     requires { length links.now ≤ 512 }
-    ensures { (e : ℕ) → e < length links.now → slice_index result e ≡ lighter_than K.WeightKind.weighing.scale (weight_of K.WeightKind.weighing links.now) (length links.now) e }
-{
-    let mut marks = [0; 512];
-    for link in 0..links.len() {
-        marks[link] = mark(links, link) as u16;
-    }
-    marks
-}
-
-/// The first end of every link.
-fn starts<K: WeightKind>(links: &[Link<K>]) -> [u8; 512]
-    requires { length links.now ≤ 512 }
-    ensures { (e : ℕ) → slice_index result e ≡ from_of links.now e }
-{
-    let mut starts = [0; 512];
-    for link in 0..links.len() {
-        starts[link] = links[link].from;
-    }
-    starts
-}
-
-/// The second end of every link.
-fn ends<K: WeightKind>(links: &[Link<K>]) -> [u8; 512]
-    requires { length links.now ≤ 512 }
-    ensures { (e : ℕ) → slice_index result e ≡ to_of links.now e }
-{
-    let mut ends = [0; 512];
-    for link in 0..links.len() {
-        ends[link] = links[link].to;
-    }
-    ends
-}
-
-/// Which of the first links are open.
-pub(crate) fn open_links(closed: &Closed, count: usize) -> [bool; 512]
-    requires { count ≤ 512 }
-    ensures opens { (e : ℕ) → slice_index_or result e false ≡ open_below closed.now count e }
     ensures len { length result ≡ 512 }
+    ensures starts { (e : ℕ) → (link_at result e).from ≡ from_of links.now e }
+    ensures ends { (e : ℕ) → (link_at result e).to ≡ to_of links.now e }
+    ensures marks { (e : ℕ) → e < length links.now → (link_at result e).mark ≡ lighter_than K.WeightKind.weighing.scale (weight_of K.WeightKind.weighing links.now) (length links.now) e }
+    ensures opens { (e : ℕ) → (link_at result e).usable ≡ open_below closed.now (length links.now) e }
 {
-    let mut open = [false; 512];
-    for link in 0..count {
-        open[link] = closed.is_open(link as u16);
+    let none = PlanLink {
+        from: 0,
+        to: 0,
+        mark: 0,
+        usable: false,
+    };
+    let mut places = [none; 512];
+    for (number, link) in links.iter().enumerate() {
+        places[number] = PlanLink {
+            from: link.from,
+            to: link.to,
+            mark: mark(links, number) as u16,
+            usable: closed.is_open(number as u16),
+        };
     }
-    open
+    places
 }
 
 impl<K: WeightKind> Network<K> {
@@ -86,23 +66,11 @@ impl<K: WeightKind> Network<K> {
         ensures alike { Alike numbers K.WeightKind.weighing.scale (mark_of result) (weights_of K.WeightKind.weighing self.now) (length (links_of self.now)) }
         ensures marks { (e : ℕ) → e < length (links_of self.now) → mark_of result e ≡ lighter_than K.WeightKind.weighing.scale (weights_of K.WeightKind.weighing self.now) (length (links_of self.now)) e }
     {
-        self.marked()
-    }
-
-    /// The plan, as `plan` gives it.
-    fn marked(&self) -> Plan
-        ensures graph { graph_of result ≡ network_graph self.now }
-        ensures alike { Alike numbers K.WeightKind.weighing.scale (mark_of result) (weights_of K.WeightKind.weighing self.now) (length (links_of self.now)) }
-        ensures marks { (e : ℕ) → e < length (links_of self.now) → mark_of result e ≡ lighter_than K.WeightKind.weighing.scale (weights_of K.WeightKind.weighing self.now) (length (links_of self.now)) e }
-    {
         let links = self.links();
         Plan {
             sites: self.sites,
             count: links.len(),
-            from: starts(links),
-            to: ends(links),
-            mark: marks(links),
-            usable: open_links(&self.closed, links.len()),
+            links: marked_links(links, &self.closed),
             order: rank_links(links),
         }
     }

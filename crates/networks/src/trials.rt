@@ -3,6 +3,7 @@
 ghost use Rattle.std.specs.Prelude.{◌≡◌, ℕ, ◌+◌, ◌<◌, ◌≤◌, false, length, IfOk, Decides, OnErr, slice_index_or};
 ghost use Rattle.forests.specs.Graphs.{SitesJoined};
 ghost use Rattle.weights.specs.Amounts.{numbers};
+ghost use Rattle.cheapest.specs.Places.{link_at};
 ghost use Rattle.cheapest.specs.Plans.{graph_of, mark_of};
 ghost use Rattle.networks.specs.Closures.{closed_at};
 ghost use Rattle.networks.specs.Links.{open_below};
@@ -12,7 +13,6 @@ ghost use Rattle.networks.specs.Trials.{open_only, without, FirstWritten, TrialR
 
 use crate::closed::{Closed, Reopen};
 use crate::networks::Network;
-use crate::plans::open_links;
 use crate::refusals::{Layer, Refusal};
 use cheapest::{Plan, Rows};
 use weights::WeightKind;
@@ -44,13 +44,14 @@ fn reopened(plan: &Plan, closed: &Closed) -> Plan
     ensures graph { graph_of result ≡ open_only closed.now (graph_of plan.now) }
     ensures marks { mark_of result ≡ mark_of plan.now }
 {
+    let mut links = plan.links;
+    for (number, link) in links.iter_mut().enumerate() {
+        link.usable = number < plan.count && closed.is_open(number as u16);
+    }
     Plan {
         sites: plan.sites,
         count: plan.count,
-        from: plan.from,
-        to: plan.to,
-        mark: plan.mark,
-        usable: open_links(closed, plan.count),
+        links,
         order: plan.order,
     }
 }
@@ -59,7 +60,7 @@ fn reopened(plan: &Plan, closed: &Closed) -> Plan
 /// as it was; whether there is one.
 fn try_closed(plan: &Plan, closed: &mut Closed, link: u16, list: &mut [u16]) -> bool
     requires room { plan.now.sites ≤ length list.old + 1 }
-    requires open { (e : ℕ) → slice_index_or plan.now.usable e false ≡ open_below closed.old plan.now.count e }
+    requires open { (e : ℕ) → (link_at plan.now.links e).usable ≡ open_below closed.old plan.now.count e }
     ensures joined { Decides result (SitesJoined (without (graph_of plan.now) link)) }
     ensures writes { FirstWritten (without (graph_of plan.now) link) numbers (mark_of plan.now) result list.old list.new }
     ensures restores { (e : ℕ) → closed_at closed.new e ≡ closed_at closed.old e }

@@ -1,6 +1,7 @@
 use Rattle.std.proofs.Common.{◌≡◌, ℕ, Bool, true, false, not, ◌&&◌, eqb, ltb, List, get_or, set, Decides, sym, refl, ap, ◌∙◌, subst}
 use Rattle.forests.specs.Graphs.{Graph, SitesJoined}
 use Rattle.weights.specs.Amounts.{numbers}
+use Rattle.cheapest.specs.Places.{link_at}
 use Rattle.cheapest.specs.Plans.{graph_of, mark_of}
 use Rattle.networks.specs.Closures.{states_of}
 use Rattle.networks.specs.Links.{open_below}
@@ -20,8 +21,8 @@ returns c =
     let now-closed = c.put.new.self in
     let was = c.is_closed-was.ensures in
     let opened : open_only now-closed (graph_of p) ≡ without (graph_of p) link =
-    same_graph p.sites p.count p.count (λ e. get_or p.from e 0) (λ e. get_or p.from e 0) (λ e. get_or p.to e 0) (λ e. get_or p.to e 0)
-    (open_below now-closed p.count) (λ e. get_or p.usable e false && not (eqb e link)) refl (λ _. refl) (λ _. refl)
+    same_graph p.sites p.count p.count (λ e. (link_at p.links e).from) (λ e. (link_at p.links e).from) (λ e. (link_at p.links e).to) (λ e. (link_at p.links e).to)
+    (open_below now-closed p.count) (λ e. (link_at p.links e).usable && not (eqb e link)) refl (λ _. refl) (λ _. refl)
     (λ e. ap (λ (ys : List Bool). ltb e p.count && not (get_or ys e false)) c.put.ensures.puts ∙ closed_usable xs p.count link e c.put.ensures.wide p.room
     ∙ ap (λ (b : Bool). b && not (eqb e link)) (sym (c.requires.open e))) in
     let graph : graph_of c.reopened.result ≡ without (graph_of p) link = c.reopened.ensures.graph ∙ opened in

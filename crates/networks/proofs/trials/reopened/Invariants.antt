@@ -1,0 +1,7 @@
+use Rattle.cheapest.proofs.Reopened.{Reopening}
+use Rattle.networks.specs.Links.{open_below}
+use Rattle.networks.proofs.trials.reopened.Given as goal
+
+-- the links so far
+abbrev pub invariant-loop-number : goal.invariant-loop-number
+invariant-loop-number l = Reopening l.plan.links l.link-items (open_below l.closed l.plan.count) l.number
