@@ -7,7 +7,6 @@ pub mod FirstFaults
 pub mod Filled
 pub mod Injections
 pub mod Inside
-pub mod Marks
 pub mod Order
 pub mod Prices
 pub mod Rules

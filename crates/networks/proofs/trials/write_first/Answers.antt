@@ -26,7 +26,7 @@ returns c =
     record {
       joined = ((λ _. first_joins (graph_of p) numbers (mark_of p) (row_of c.advance.new.self) f), (λ _. refl));
       writes = record {
-        writes = λ _. (row_of c.advance.new.self, f, subst (λ (r : List ℕ). Written r c.args.list.now c.write_row.new.list) c.row.ensures c.write_row.ensures);
+        writes = λ _. (row_of c.advance.new.self, f, rw (c.copy_from_slice.ensures.after, c.row-row.ensures));
         leaves = λ none. absurd (none refl);
       };
     }

@@ -1,13 +1,13 @@
-use Rattle.std.proofs.Common.{◌≡◌, length}
+use Rattle.std.proofs.Common.{◌≡◌}
 use Rattle.receivers.specs.Rules.{EndOf}
 use Rattle.walks.proofs.Running.{Ran}
 use Rattle.walks.proofs.performing.act_all.Given as goal
 
-abbrev pub invariant-loop-i : goal.invariant-loop-i
-invariant-loop-i g l =
+abbrev pub invariant-loop-turn : goal.invariant-loop-turn
+invariant-loop-turn g l =
     let k = g.K.WeightKind in
     let ρ = g.R.Receiver in
     let was = l.initial.receiver in
     let is = l.receiver in
-    Ran k.scale k.amount l.initial.walk l.walk (ρ.rule was) (ρ.held was) (ρ.held is) l.initial.turns l.turns l.i
-    × (ρ.rule is ≡ ρ.rule was) × EndOf (ρ.spare was) (ρ.spare is) × (ρ.lender is ≡ ρ.lender was) × (length l.turns ≡ length l.initial.turns)
+    Ran k.scale k.amount l.initial.walk l.walk (ρ.rule was) (ρ.held was) (ρ.held is) l.initial.turns l.turns l.turn-index
+    × (ρ.rule is ≡ ρ.rule was) × EndOf (ρ.spare was) (ρ.spare is) × (ρ.lender is ≡ ρ.lender was)
