@@ -1,6 +1,6 @@
 -- What a plan answers about its cheapest trees holds of the graph and the weights that it stands for:
 -- amounts that compare alike make the same trees cheapest.
-use Rattle.std.proofs.Common.{◌≡◌, ℕ, Bool, ◌↔◌, List, [], ◌∷◌, sym, ap, subst}
+use Rattle.std.proofs.Common.{◌≡◌, ℕ, Bool, ◌↔◌, List, [], ◌∷◌, sym, refl, ap, subst, arith}
 use Rattle.weights.specs.Amounts.{numbers}
 use Rattle.weights.specs.Scales.{Scale, Lawful}
 use Rattle.forests.specs.Graphs.{Graph, Fits}
@@ -13,7 +13,7 @@ use Rattle.cheapest.proofs.Listed.{plan_fits}
 use Rattle.cheapest.proofs.Numbers.{numbers_lawful}
 use Rattle.cheapest.proofs.Ranks.{rank_alike}
 use Rattle.cheapest.proofs.SameRows.{same_rows, earlier_alike}
-use Rattle.networks.specs.Classes.{HasClass, Counted}
+use Rattle.networks.specs.Classes.{HasClass, Counted, letter_of}
 use Rattle.networks.specs.Trials.{without, FirstRow, FirstWritten}
 use Rattle.networks.proofs.Counted.{counted_alike}
 use Rattle.networks.specs.declared.classes.Class.{Class}
@@ -36,6 +36,30 @@ module _ (g : Graph) (s s' : Scale) (w : ℕ → s.Amount) (w' : ℕ → s'.Amou
   class_alike e Never h = λ i. h (some_back (e ∷ []) i)
   class_alike e Always h = (some_alike (e ∷ []) h.0, every_alike e h.1)
   class_alike e Sometimes h = (some_alike (e ∷ []) h.0, (λ i. h.1 (every_back e i)))
+
+-- a link has one class
+pub one_class : (g : Graph) (s : Scale) (w : ℕ → s.Amount) (e : ℕ) (c d : Class) → HasClass g s w e c → HasClass g s w e d → c ≡ d
+one_class g s w e Never Never h k = refl
+one_class g s w e Never Always h k = absurd (h k.0)
+one_class g s w e Never Sometimes h k = absurd (h k.0)
+one_class g s w e Always Never h k = absurd (k h.0)
+one_class g s w e Always Always h k = refl
+one_class g s w e Always Sometimes h k = absurd (k.1 h.1)
+one_class g s w e Sometimes Never h k = absurd (k h.0)
+one_class g s w e Sometimes Always h k = absurd (h.1 k.1)
+one_class g s w e Sometimes Sometimes h k = refl
+
+-- no two classes have one letter
+pub one_letter : (c d : Class) → letter_of c ≡ letter_of d → c ≡ d
+one_letter Never Never e = refl
+one_letter Never Always e = absurd (omega arith)
+one_letter Never Sometimes e = absurd (omega arith)
+one_letter Always Never e = absurd (omega arith)
+one_letter Always Always e = refl
+one_letter Always Sometimes e = absurd (omega arith)
+one_letter Sometimes Never e = absurd (omega arith)
+one_letter Sometimes Always e = absurd (omega arith)
+one_letter Sometimes Sometimes e = refl
 
 -- the first row is the same under amounts that compare alike
 first_alike : (g : Graph) (s s' : Scale) (w : ℕ → s.Amount) (w' : ℕ → s'.Amount) → Alike s s' w w' g.links → ((r : List ℕ) → Cheapest g s w r ↔ Cheapest g s' w' r)

@@ -1,7 +1,6 @@
 -- How many numbers have a property, one number more at a time.
 use Rattle.std.proofs.Common.{◌≡◌, ℕ, ◌+◌, ◌<◌, ◌≤◌, Bool, true, false, eqb, ◌⊎◌, ◌↔◌, [], ◌∷◌, Decides, sym, refl, subst, inl, inr, ⊎_elim, arith}
-use mir.Val.{bool_byte}
-use Rattle.std.proofs.lemmas.Bool.{cases_Bool, eqb-true, eqb-false, false≢true}
+use Rattle.std.proofs.lemmas.Bool.{cases_Bool, eqb-true, eqb-false}
 use Rattle.networks.specs.Classes.{Counted}
 
 pub counted_none : (P : ℕ → Type 0) → Counted P 0 0
@@ -41,12 +40,6 @@ module _ (P : ℕ → Type 0) (m k : ℕ) (so_far : Counted P m k) where
     );
     many = so_far.many;
   }
-
--- one answer of a test of the property is added to what was counted
-pub counted_step : (P : ℕ → Type 0) (m k : ℕ) (r : Bool) → Decides r (P m) → (k ≤ m) × Counted P m k → (k + bool_byte r ≤ m + 1) × Counted P (m + 1) (k + bool_byte r)
-counted_step P m k true d h = (omega (arith, h.0), counted_more P m k h.1 (d.0 refl))
-counted_step P m k false d h =
-    (omega (arith, h.0), subst (Counted P (m + 1)) (omega arith) (counted_same P m k h.1 (λ p. false≢true (d.1 p))))
 
 pub counted_alike : (P Q : ℕ → Type 0) (m k : ℕ) → ((e : ℕ) → P e ↔ Q e) → Counted P m k → Counted Q m k
 counted_alike P Q m k same c = record {

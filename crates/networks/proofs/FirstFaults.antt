@@ -39,7 +39,7 @@ module _ {W : Type 0} (sites : ℕ) where
           ap (λ n. at Network 8 n) (omega arith) ∙ x.1,
           λ inside.
               (let no_way = not-true both x.0 in let yes_way = and_from (ltb link.from sites) (ltb link.to sites) (lt-ltb link.from sites inside.0) (lt-ltb link.to sites inside.1) in
-              let z : ◌≡◌ {A = ℕ} 0 1 = cc in omega arith),
+              cc),
         ),
       ))
       (λ x.

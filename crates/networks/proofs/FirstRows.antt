@@ -19,9 +19,6 @@ first_found p before after is off steps =
 pub first_joins : (g : Graph) (s : Scale) (w : ℕ → s.Amount) (r : List ℕ) → FirstRow g s w r → SitesJoined g
 first_joins g s w r f = (let size = f.member.row.tree.size in omega arith, r, f.member.row.tree.allowed, f.member.row.tree.joins)
 
-pub first_long : (g : Graph) (s : Scale) (w : ℕ → s.Amount) (r : List ℕ) → FirstRow g s w r → length r + 1 ≡ g.sites
-first_long g s w r f = f.member.row.tree.size
-
 and_false : (b : Bool) → (b && false) ≡ false
 and_false true = refl
 and_false false = refl

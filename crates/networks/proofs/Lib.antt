@@ -8,7 +8,6 @@ pub mod Filled
 pub mod MarkedLinks
 pub mod Injections
 pub mod Inside
-pub mod Marks
 pub mod Order
 pub mod Prices
 pub mod Rules

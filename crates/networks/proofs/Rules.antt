@@ -4,7 +4,7 @@ use Rattle.networks.specs.declared.refusals.Report.{Report}
 
 -- where no rule applies, neither the first does nor one of the others
 pub passed : (t : Bool) (r : Report) (rest : Option Report) → cond t (Some r) rest ≡ None → (t ≡ false) × (rest ≡ None)
-passed true r rest e = absurd (let z : ◌≡◌ {A = ℕ} 0 1 = cc in omega arith)
+passed true r rest e = cc
 passed false r rest e = (refl, e)
 
 -- what decides is the first rule, or another where the first does not apply
@@ -13,4 +13,4 @@ decided true a r rest e = inl (refl, cc)
 decided false a r rest e = inr (refl, e)
 
 pub never : {A : Type 0} (r : A) → ◌≡◌ {A = Option A} None (Some r) → ⊥
-never r e = let z : ◌≡◌ {A = ℕ} 0 1 = cc in omega arith
+never r e = cc

@@ -19,12 +19,7 @@ impl Drop for Reopen<'_> {
     fn drop(self)
         ensures { self.exit.0.now.marks ≡ slice_set self.entry.closed.now.marks self.entry.link self.entry.was }
     {
-        let (link, was) = (self.link, self.was);
-        self.closed.put(link, was);
-        let Reopen {
-            closed: _,
-            link: _,
-            was: _,
-        } = self;
+        let Reopen { closed, link, was } = self;
+        closed.put(link, was);
     }
 }

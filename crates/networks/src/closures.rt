@@ -20,8 +20,7 @@ impl Closed {
     pub fn is_closed(&self, link: u16) -> bool
         ensures { result ≡ closed_at self.now link }
     {
-        let link = link as usize;
-        link < 512 && self.marks[link]
+        self.marks.get(link as usize).copied().unwrap_or(false)
     }
 
     /// Whether this link is open.
@@ -37,6 +36,7 @@ impl Closed {
         ensures wide { length (states_of self.old) ≡ 512 }
     {
         let link = link as usize;
+        // By index: once a mark lent by `get_mut` is given back, a proof knows of the marks only how many they are.
         if link < 512 {
             self.marks[link] = state;
         }

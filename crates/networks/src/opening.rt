@@ -32,7 +32,7 @@ impl<K: WeightKind> Network<K> {
             sites,
             count: links.len(),
             links: stored(links),
-            closed: all_open(),
+            closed: Closed::none(),
         })
     }
 
@@ -71,13 +71,6 @@ fn check_links<K: WeightKind>(sites: u8, links: &[Link<K>]) -> Result<(), Refusa
     Ok(())
 }
 
-/// The record in which every link is open.
-fn all_open() -> Closed
-    ensures { (e : ℕ) → closed_at result e ≡ false }
-{
-    Closed::none()
-}
-
 /// The links in the first of 512 places.
 fn stored<K: WeightKind>(links: &[Link<K>]) -> [Link<K>; 512]
     requires { length links.now ≤ 512 }
@@ -89,9 +82,7 @@ fn stored<K: WeightKind>(links: &[Link<K>]) -> [Link<K>; 512]
         weight: K::zero(),
     };
     let mut places = [filler; 512];
-    for number in 0..links.len() {
-        places[number] = links[number];
-    }
+    places[..links.len()].copy_from_slice(links);
     places
 }
 

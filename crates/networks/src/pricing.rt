@@ -18,10 +18,8 @@ pub fn price<K: WeightKind>(links: &[Link<K>], row: &[u16]) -> Result<K::Total, 
     ensures counts { IfOk result (λ t. K.WeightKind.held t ≡ length row.now) }
     ensures level { IfOk result (λ t. K.WeightKind.level t) }
 {
-    match check_row(links.len(), row) {
-        Ok(()) => Ok(sum_row(links, row)),
-        Err(refusal) => Err(refusal),
-    }
+    check_row(links.len(), row)?;
+    Ok(sum_row(links, row))
 }
 
 /// Refuses the first entry that is none of so many records' numbers, or a 64th.

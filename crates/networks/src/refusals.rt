@@ -1,7 +1,10 @@
 //! Refusals: what was wrong with what was handed in, or why the moment does not allow a call.
 
-ghost use Rattle.std.specs.Prelude.{◌≡◌};
-ghost use Rattle.networks.specs.Refusals.{report_of, name_of};
+ghost use Rattle.std.specs.Prelude.{◌≡◌, Some};
+ghost use Rattle.networks.specs.Refusals.{report_of, name_of, line_of};
+
+use std::error::Error;
+use std::fmt;
 
 /// The part of the product that refuses.
 #[derive(Clone, Copy, PartialEq, Eq, Debug)]
@@ -25,7 +28,7 @@ impl Layer {
 }
 
 /// Everything that is refused; each case carries the values that its place is made of.
-#[derive(Clone, Copy)]
+#[derive(Clone, Copy, PartialEq, Eq, Debug)]
 pub enum Refusal {
     /// The sheet has only so many bytes, fewer than its header.
     ShortSheet(usize),
@@ -79,12 +82,11 @@ pub struct Report {
     pub place: usize,
 }
 
-impl Refusal {
-    /// The layer, number and place of this refusal.
-    pub fn to_report(&self) -> Report
-        ensures { result ≡ report_of self.now }
-    {
-        let (layer, number, place) = match *self {
+impl From<Refusal> for Report {
+    ghost from_gives = { λ refusal report. report ≡ report_of refusal };
+
+    fn from(refusal: Refusal) -> Report {
+        let (layer, number, place) = match refusal {
             Refusal::ShortSheet(bytes) => (Layer::Sheet, 1, bytes),
             Refusal::WrongLength => (Layer::Sheet, 2, 0),
             Refusal::UnknownVersion => (Layer::Sheet, 3, 4),
@@ -114,3 +116,42 @@ impl Refusal {
         }
     }
 }
+
+impl Refusal {
+    /// The layer, number and place of this refusal.
+    pub fn to_report(&self) -> Report
+        ensures { result ≡ report_of self.now }
+    {
+        Report::from(*self)
+    }
+}
+
+impl fmt::Display for Layer {
+    ghost output = { λ layer. Some (name_of layer) };
+
+    fn fmt<W: fmt::Write>(&self, f: &mut fmt::Formatter<W>) -> fmt::Result {
+        f.write_str(self.name())
+    }
+}
+
+impl fmt::Display for Report {
+    ghost output = { λ report. Some (line_of report) };
+
+    fn fmt<W: fmt::Write>(&self, f: &mut fmt::Formatter<W>) -> fmt::Result {
+        write!(
+            f,
+            "refused {} at {} in {}",
+            self.number, self.place, self.layer
+        )
+    }
+}
+
+impl fmt::Display for Refusal {
+    ghost output = { λ refusal. Some (line_of (report_of refusal)) };
+
+    fn fmt<W: fmt::Write>(&self, f: &mut fmt::Formatter<W>) -> fmt::Result {
+        write!(f, "{}", self.to_report())
+    }
+}
+
+impl Error for Refusal {}

@@ -17,14 +17,6 @@ use crate::refusals::{Layer, Refusal};
 use cheapest::{Plan, Rows};
 use weights::WeightKind;
 
-/// Writes the row into the first places of the list.
-fn write_row(row: &[u16], list: &mut [u16])
-    requires { length row.now ≤ length list.old }
-    ensures { Written row.now list.old list.new }
-{
-    list[0..row.len()].copy_from_slice(row);
-}
-
 /// Writes the plan's first row into the list; whether there is one.
 fn write_first(plan: Plan, list: &mut [u16]) -> bool
     requires { plan.sites ≤ length list.old + 1 }
@@ -35,7 +27,8 @@ fn write_first(plan: Plan, list: &mut [u16]) -> bool
     if !rows.advance() {
         return false;
     }
-    write_row(rows.row(), list);
+    let row = rows.row();
+    list[..row.len()].copy_from_slice(row);
     true
 }
 

@@ -4,7 +4,7 @@ use Rattle.forests.specs.Lists.{In, Different}
 use Rattle.forests.proofs.Members.{in_right}
 
 pub not_empty : {A : Type 0} (x : A) (xs : List A) → ◌≡◌ {A = List A} [] (x ∷ xs) → ⊥
-not_empty x xs e = let z : ◌≡◌ {A = ℕ} 0 1 = cc in omega arith
+not_empty x xs e = cc
 
 pub not_cut : {A : Type 0} (xs : List A) (y : A) (ys : List A) → [] ≡ xs ++ (y ∷ ys) → ⊥
 not_cut [] y ys e = not_empty y ys e

@@ -1,6 +1,9 @@
 -- The next members of a list from a place on. Each row stands once, so a place has one rest of the list
 -- behind it, and all that comes next is a front of that rest.
-use Rattle.std.proofs.Common.{◌≡◌, ℕ, ◌<◌, List, [], ◌∷◌, ◌++◌, length, Some, None, Option, sym, refl, ap, ◌∙◌, subst, append_assoc}
+use Rattle.std.proofs.Common.{◌≡◌, ℕ, ◌<◌, eqb, List, [], ◌∷◌, ◌++◌, length, Some, None, Option, Decides, sym, refl, ap, ◌∙◌, subst, append_assoc}
+use Rattle.std.proofs.lemmas.Bool.{false≢true}
+use Rattle.std.proofs.lemmas.Bool.Decides.{Decides-eqb, Decides-or}
+use Rattle.std.specs.List.{list_any}
 use Rattle.forests.specs.Lists.{In, Different}
 use Rattle.cheapest.proofs.Listings.{split_at}
 use Rattle.walks.specs.Places.{NextMembers, Comes, IsLast, last_of}
@@ -86,3 +89,11 @@ module _ (L : List (List ℕ)) where
     pub not_last : (here : Option (List ℕ)) (row : List ℕ) (rows : List (List ℕ)) → NextMembers L here (row ∷ rows) → IsLast L here → ⊥
     not_last None row rows n l = l
     not_last (Some here) row rows n l = not_empty row (rows ++ n.1) (one_behind (Some here) [] (row ∷ (rows ++ n.1)) l (n.0, n.2))
+
+-- a search through a list finds what stands in it
+pub decides_in : (x : ℕ) (xs : List ℕ) → Decides (list_any (λ y. eqb y x) xs) (In x xs)
+decides_in x [] = ((λ e. absurd (false≢true e)), (λ h. absurd h))
+decides_in x (y ∷ ys) =
+    let d = Decides-eqb y x in
+    let turned : Decides (eqb y x) (x ≡ y) = ((λ e. sym (d.0 e)), (λ e. d.1 (sym e))) in
+    Decides-or _ _ turned (decides_in x ys)

@@ -13,15 +13,6 @@ use Rattle.walks.specs.Calls.{Asked, next, pour, seek, call_of}
 use Rattle.walks.proofs.Members.{next_front, next_rest, none_of_empty, next_same, next_longer, comes_same, not_last}
 use Rattle.walks.proofs.Offered.{taken_rest}
 
-not_both : {A : Type 0} (o : Option A) → is_some o ≡ true → is_some o ≡ false → ⊥
-not_both o t f = let z : ◌≡◌ {A = ℕ} 0 1 = cc in omega arith
-
--- which of the three is asked, as a number
-abbrev kind : Asked → ℕ
-kind (next list) = 0
-kind (pour limit) = 1
-kind (seek row) = 2
-
 module _ (L : List (List ℕ)) (size : ℕ) (rule : Rule) (once : Different L) where
   -- a pour does not end early: no other run of next members that the rule takes is longer
   not_longer : (J : Type 0) → ((J → ⊥) → L ≡ []) → (here : Option (List ℕ)) (held : List ℕ) (limit letter : ℕ) (rows rows' : List (List ℕ))
@@ -40,7 +31,8 @@ module _ (L : List (List ℕ)) (size : ℕ) (rule : Rule) (once : Different L) w
         | no_more c j last k ↦ not_last L once there row more m last
         | not_taken c j follows r comes declines k ↦
             let e = comes_same L once there row r (next_front L there (row ∷ []) more m) comes in
-            not_both (rule (held_after_all rule held rows) r) (subst (λ z. is_some (rule (held_after_all rule held rows) z) ≡ true) e t.0) declines
+            let takes = subst (λ z. is_some (rule (held_after_all rule held rows) z) ≡ true) e t.0 in
+            cc
       ]
 
   module _ (J J' : Type 0) (to : J → J') (back : J' → J) (here : Option (List ℕ)) where
@@ -99,9 +91,9 @@ module _ (L : List (List ℕ)) (size : ℕ) (rule : Rule) (once : Different L) w
     event_same (gives list after row) (refuses list' after' why) i i' a a' k =
         let l : list' ≡ list = cc in
         absurd (gives_or_refuses J J' to back here list after row why a (subst (λ z. RefusedFor L size J' here z why) l a'.1))
-    event_same (gives list after row) (pours limit rows letter) i i' a a' k = absurd (omega (arith, ap kind k))
-    event_same (gives list after row) (finds row') i i' a a' k = absurd (omega (arith, ap kind k))
-    event_same (gives list after row) (misses row' why) i i' a a' k = absurd (omega (arith, ap kind k))
+    event_same (gives list after row) (pours limit rows letter) i i' a a' k = cc
+    event_same (gives list after row) (finds row') i i' a a' k = cc
+    event_same (gives list after row) (misses row' why) i i' a a' k = cc
     event_same (refuses list after why) (gives list' after' row) i i' a a' k =
         let l : list ≡ list' = cc in
         absurd (gives_or_refuses J' J back to here list' after' row why a' (subst (λ z. RefusedFor L size J here z why) l a.1))
@@ -111,24 +103,24 @@ module _ (L : List (List ℕ)) (size : ℕ) (rule : Rule) (once : Different L) w
         let w = a.0 in
         let w' = a'.0 in
         cc
-    event_same (refuses list after why) (pours limit rows letter) i i' a a' k = absurd (omega (arith, ap kind k))
-    event_same (refuses list after why) (finds row) i i' a a' k = absurd (omega (arith, ap kind k))
-    event_same (refuses list after why) (misses row why') i i' a a' k = absurd (omega (arith, ap kind k))
-    event_same (pours limit rows letter) (gives list after row) i i' a a' k = absurd (omega (arith, ap kind k))
-    event_same (pours limit rows letter) (refuses list after why) i i' a a' k = absurd (omega (arith, ap kind k))
+    event_same (refuses list after why) (pours limit rows letter) i i' a a' k = cc
+    event_same (refuses list after why) (finds row) i i' a a' k = cc
+    event_same (refuses list after why) (misses row why') i i' a a' k = cc
+    event_same (pours limit rows letter) (gives list after row) i i' a a' k = cc
+    event_same (pours limit rows letter) (refuses list after why) i i' a a' k = cc
     event_same (pours limit rows letter) (pours limit' rows' letter') i i' a a' k =
         let l : limit' ≡ limit = cc in
         let s = pours_same limit letter letter' rows rows' i i' a (subst (λ z. Pours L J' rule here held z rows' letter') l a') in
         cc
-    event_same (pours limit rows letter) (finds row) i i' a a' k = absurd (omega (arith, ap kind k))
-    event_same (pours limit rows letter) (misses row why) i i' a a' k = absurd (omega (arith, ap kind k))
-    event_same (finds row) (gives list after row') i i' a a' k = absurd (omega (arith, ap kind k))
-    event_same (finds row) (refuses list after why) i i' a a' k = absurd (omega (arith, ap kind k))
-    event_same (finds row) (pours limit rows letter) i i' a a' k = absurd (omega (arith, ap kind k))
+    event_same (pours limit rows letter) (finds row) i i' a a' k = cc
+    event_same (pours limit rows letter) (misses row why) i i' a a' k = cc
+    event_same (finds row) (gives list after row') i i' a a' k = cc
+    event_same (finds row) (refuses list after why) i i' a a' k = cc
+    event_same (finds row) (pours limit rows letter) i i' a a' k = cc
     event_same (finds row) (finds row') i i' a a' k = cc
     event_same (finds row) (misses row' why) i i' a a' k = let r : row ≡ row' = cc in absurd (a'.0 (rw (← r) a))
-    event_same (misses row why) (gives list after row') i i' a a' k = absurd (omega (arith, ap kind k))
-    event_same (misses row why) (refuses list after why') i i' a a' k = absurd (omega (arith, ap kind k))
-    event_same (misses row why) (pours limit rows letter) i i' a a' k = absurd (omega (arith, ap kind k))
+    event_same (misses row why) (gives list after row') i i' a a' k = cc
+    event_same (misses row why) (refuses list after why') i i' a a' k = cc
+    event_same (misses row why) (pours limit rows letter) i i' a a' k = cc
     event_same (misses row why) (finds row') i i' a a' k = let r : row ≡ row' = cc in absurd (a.0 (rw r a'))
     event_same (misses row why) (misses row' why') i i' a a' k = let w = a.1 in let w' = a'.1 in cc

@@ -1,17 +1,26 @@
 -- Single calls as events.
-use Rattle.std.proofs.Common.{◌≡◌, ℕ, zero, suc, List, [], ◌∷◌, ◌++◌, length, take, Some, None, Option, sym, refl, ap, ◌∙◌, arith}
+use Rattle.std.proofs.Common.{◌≡◌, ℕ, zero, suc, List, [], ◌∷◌, ◌++◌, length, take, Some, None, Ok, Err, Option, Result, MatchResult, sym, refl, ap, ◌∙◌, arith}
+use Rattle.networks.specs.Refusals.{refusal_of}
+use Rattle.networks.specs.declared.refusals.Refusal.{Refusal}
 use Rattle.networks.specs.declared.refusals.Report.{Report}
+use Rattle.walks.specs.declared.turns.Reply.{Reply}
+use Rattle.walks.specs.declared.turns.Reply.TheVariants.{Done}
 use Rattle.receivers.specs.Rules.{Rule}
 use Rattle.walks.specs.Calls.{Asked, next, pour, seek, call_of}
 use Rattle.walks.specs.Doing.{NextDoes, SeekDoes, PourDoes}
 use Rattle.walks.specs.Events.{Event, gives, refuses, pours, finds, misses}
 use Rattle.walks.specs.Steps.{Step}
-use Rattle.walks.specs.Turns.{Heard, poured, heard_as, heard_of, left_by}
+use Rattle.walks.specs.Turns.{Heard, poured, heard_as, heard_from, heard_of, left_by}
 
 pub take_front : (xs ys : List ℕ) (n : ℕ) → length xs ≡ n → take n (xs ++ ys) ≡ xs
 take_front [] ys n e = ap (λ (k : ℕ). take k ys) (sym e)
 take_front (x ∷ xs) ys zero e = absurd (omega (arith, e))
 take_front (x ∷ xs) ys (suc n) e = ap (λ (zs : List ℕ). x ∷ zs) (take_front xs ys n (omega (arith, e)))
+
+-- what is heard of a call that replies nothing but that it was done
+pub heard_done : (r : Result (Unit {0}) Refusal) (a : Result Reply Refusal) → MatchResult r (λ _. a ≡ Ok Done) (λ e. a ≡ Err e) → heard_from (Some a) ≡ heard_as (refusal_of r)
+heard_done (Ok x) a h = ap (λ (z : Result Reply Refusal). heard_from (Some z)) h
+heard_done (Err e) a h = ap (λ (z : Result Reply Refusal). heard_from (Some z)) h
 
 module _ (L : List (List ℕ)) (size : ℕ) (J : Type 0) (rule : Rule) (here : Option (List ℕ)) (held : List ℕ) where
   -- An event asks, leaves and hears this, and leads the walk and the receiver there.

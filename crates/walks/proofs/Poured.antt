@@ -1,5 +1,5 @@
 -- A pour, one offer at a time.
-use Rattle.std.proofs.Common.{◌≡◌, ℕ, ◌+◌, ◌<◌, List, [], ◌∷◌, ◌++◌, length, Some, None, Option, sym, refl, ◌∙◌, subst, arith}
+use Rattle.std.proofs.Common.{◌≡◌, ℕ, ◌+◌, ◌<◌, List, [], ◌∷◌, ◌++◌, length, Ok, Err, Result, sym, refl, ◌∙◌, subst, arith}
 use Rattle.std.proofs.lemmas.List.{length-append}
 use Rattle.forests.specs.Graphs.{SitesJoined}
 use Rattle.cheapest.specs.Plans.{graph_of}
@@ -27,7 +27,7 @@ pub taken_none : (rows : Rows) (rule : Rule) (held : List ℕ) → Taken rows ro
 taken_none rows rule held = record { plan = refl; so_far = λ L full. ([], refl, poured_none L 0 (SitesJoined (graph_of (plan_of rows))) rule (place_in rows) held (place_listed rows L full)) }
 
 -- What an offer at `now` does, told by the full list of the plan that the pour began with.
-module _ (before now next : Rows) (rule rule' : Rule) (held held' held'' : List ℕ) (count : ℕ) (said : Option Ending)
+module _ (before now next : Rows) (rule rule' : Rule) (held held' held'' : List ℕ) (count : ℕ) (said : Result (Unit {0}) Ending)
     (taken : Taken before now rule held held' count) (same : rule' ≡ rule)
     (does : (L : List (List ℕ)) → ListedBy (plan_of now) L → OfferDoes L (SitesJoined (graph_of (plan_of now))) rule' (place_in now) held' said (place_in next) held'') where
   offered : (L : List (List ℕ)) → ListedBy (plan_of before) L → OfferDoes L (SitesJoined (graph_of (plan_of before))) rule (place_in now) held' said (place_in next) held''
@@ -35,12 +35,12 @@ module _ (before now next : Rows) (rule rule' : Rule) (held held' held'' : List 
       subst (λ (p : Plan). (L : List (List ℕ)) → ListedBy p L → OfferDoes L (SitesJoined (graph_of p)) rule (place_in now) held' said (place_in next) held'') taken.plan
       (λ L full. subst (λ (ρ : Rule). OfferDoes L (SitesJoined (graph_of (plan_of now))) ρ (place_in now) held' said (place_in next) held'') same (does L full))
 
-  pub taken_more : said ≡ None → plan_of next ≡ plan_of now → Taken before next rule held held'' (count + 1)
+  pub taken_more : said ≡ Ok tt → plan_of next ≡ plan_of now → Taken before next rule held held'' (count + 1)
   taken_more none plan' = record {
     plan = plan' ∙ taken.plan;
     so_far = λ L full.
         let (rows, long, far) = taken.so_far L full in
-        let (joined, o) = subst (λ (x : Option Ending). OfferDoes L (SitesJoined (graph_of (plan_of before))) rule (place_in now) held' x (place_in next) held'') none (offered L full) in
+        let (joined, o) = subst (λ (x : Result (Unit {0}) Ending). OfferDoes L (SitesJoined (graph_of (plan_of before))) rule (place_in now) held' x (place_in next) held'') none (offered L full) in
         let more = poured_more L 0 (SitesJoined (graph_of (plan_of before))) rule (place_in before) held (listed_once _ _ L full) rows o.0 (place_in now) held' far o.1 o.2 in (
           rows ++ (o.0 ∷ []),
           omega (arith, length-append rows (o.0 ∷ []), long),
@@ -54,7 +54,7 @@ module _ (before now next : Rows) (rule rule' : Rule) (held held' held'' : List 
   }
 
   ends : (ending : Ending) (limit : ℕ) (L : List (List ℕ)) → ListedBy (plan_of before) L → count < limit
-      → OfferDoes L (SitesJoined (graph_of (plan_of before))) rule (place_in now) held' (Some ending) (place_in next) held''
+      → OfferDoes L (SitesJoined (graph_of (plan_of before))) rule (place_in now) held' (Err ending) (place_in next) held''
       → EndsFor L (SitesJoined (graph_of (plan_of before))) rule limit count (place_in now) held' (letter_of ending) × (place_in next ≡ place_in now) × (held'' ≡ held')
   ends LimitReached limit L full l o = absurd o
   ends NotJoined limit L full l o = (no_tree l o.0 refl, o.1, o.2)
@@ -62,21 +62,21 @@ module _ (before now next : Rows) (rule rule' : Rule) (held held' held'' : List 
   ends NotTaken limit L full l o =
       (ends_not_taken L 0 (SitesJoined (graph_of (plan_of before))) rule (place_in now) held' (listed_once _ _ L full) limit count o.1.0 l o.0 o.1.1 o.1.2, o.2, o.3)
 
-  pub taken_ends : (ending : Ending) (limit : ℕ) → said ≡ Some ending → count < limit → (L : List (List ℕ)) → ListedBy (plan_of before) L
+  pub taken_ends : (ending : Ending) (limit : ℕ) → said ≡ Err ending → count < limit → (L : List (List ℕ)) → ListedBy (plan_of before) L
       → PourDoes L (SitesJoined (graph_of (plan_of before))) rule (place_in before) held limit count (letter_of ending) (place_in next) held''
   taken_ends ending limit some l L full =
       let (rows, long, far) = taken.so_far L full in
       let (why, place, hold) = ends ending limit L full l
-      (subst (λ (x : Option Ending). OfferDoes L (SitesJoined (graph_of (plan_of before))) rule (place_in now) held' x (place_in next) held'') some (offered L full)) in
+      (subst (λ (x : Result (Unit {0}) Ending). OfferDoes L (SitesJoined (graph_of (plan_of before))) rule (place_in now) held' x (place_in next) held'') some (offered L full)) in
       let s = step_pours L 0 (SitesJoined (graph_of (plan_of before))) rule (place_in before) held limit rows (letter_of ending) (place_in now) held' far (omega arith)
       (subst (λ (n : ℕ). EndsFor L (SitesJoined (graph_of (plan_of before))) rule limit n (place_in now) held' (letter_of ending)) (sym long) why) in
       (rows, long, s.in_order, s.answered, place ∙ s.moves, hold ∙ s.holding)
 
 -- The limit is reached.
-pub taken_all : (before now : Rows) (rule : Rule) (held held' : List ℕ) (count limit : ℕ) → Taken before now rule held held' count → count ≡ limit → (L : List (List ℕ)) → ListedBy (plan_of before) L
-    → PourDoes L (SitesJoined (graph_of (plan_of before))) rule (place_in before) held limit count letter_l (place_in now) held'
-taken_all before now rule held held' count limit taken full-count L full =
+pub taken_all : (before now : Rows) (rule : Rule) (held held' : List ℕ) (limit : ℕ) → Taken before now rule held held' limit → (L : List (List ℕ)) → ListedBy (plan_of before) L
+    → PourDoes L (SitesJoined (graph_of (plan_of before))) rule (place_in before) held limit limit letter_l (place_in now) held'
+taken_all before now rule held held' limit taken L full =
     let (rows, long, far) = taken.so_far L full in
     let s = step_pours L 0 (SitesJoined (graph_of (plan_of before))) rule (place_in before) held limit rows letter_l (place_in now) held' far (omega arith)
-    (at_limit (long ∙ full-count) refl) in
+    (at_limit long refl) in
     (rows, long, s.in_order, s.answered, s.moves, s.holding)

@@ -1,7 +1,7 @@
 -- What one call does: what it answers, what it leaves in a passed list, and where the walk and the receiver
 -- stand afterwards. L is the full list, `size` the entries of a row, J says that the sites are joined, and
 -- `here` is the row that the walk is on, or None before the list.
-use Rattle.std.specs.Prelude.{◌≡◌, ℕ, List, length, Some, None, Option}
+use Rattle.std.specs.Prelude.{◌≡◌, ℕ, List, length, Some, None, Ok, Err, Option, Result}
 use Rattle.forests.specs.Lists.{In}
 use Rattle.networks.specs.Refusals.{at}
 use Rattle.networks.specs.declared.refusals.Layer.TheVariants.{Walk}
@@ -31,11 +31,11 @@ PourDoes L J rule here held limit count letter here' held' =
     × (here' ≡ last_of here rows) × (held' ≡ held_after_all rule held rows)
 
 -- One row is offered. It is taken, and the walk is then on it; or the pour ends, and nothing is altered.
-abbrev pub OfferDoes : (L : List (List ℕ)) (J : Type 0) (rule : Rule) (here : Option (List ℕ)) (held : List ℕ) (said : Option Ending) (here' : Option (List ℕ)) (held' : List ℕ) → Type 0
-OfferDoes L J rule here held None here' held' =
+abbrev pub OfferDoes : (L : List (List ℕ)) (J : Type 0) (rule : Rule) (here : Option (List ℕ)) (held : List ℕ) (said : Result (Unit {0}) Ending) (here' : Option (List ℕ)) (held' : List ℕ) → Type 0
+OfferDoes L J rule here held (Ok done) here' held' =
     J × ((row : List ℕ) × Comes L here row × Takes rule held row × (here' ≡ Some row) × (held' ≡ held_after rule held row))
-OfferDoes L J rule here held (Some LimitReached) here' held' = ⊥
-OfferDoes L J rule here held (Some NotJoined) here' held' = (J → ⊥) × (here' ≡ here) × (held' ≡ held)
-OfferDoes L J rule here held (Some NoneFollows) here' held' = J × IsLast L here × (here' ≡ here) × (held' ≡ held)
-OfferDoes L J rule here held (Some NotTaken) here' held' =
+OfferDoes L J rule here held (Err LimitReached) here' held' = ⊥
+OfferDoes L J rule here held (Err NotJoined) here' held' = (J → ⊥) × (here' ≡ here) × (held' ≡ held)
+OfferDoes L J rule here held (Err NoneFollows) here' held' = J × IsLast L here × (here' ≡ here) × (held' ≡ held)
+OfferDoes L J rule here held (Err NotTaken) here' held' =
     J × ((row : List ℕ) × Comes L here row × Declines rule held row) × (here' ≡ here) × (held' ≡ held)

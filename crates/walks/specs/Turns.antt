@@ -1,13 +1,14 @@
 -- Turns: calls of a list, with their answers, as the program hands them over.
-use Rattle.std.specs.Prelude.{◌≡◌, ℕ, List, map, length, Some, None, vec_items, Option}
+use Rattle.std.specs.Prelude.{◌≡◌, ℕ, List, map, length, Some, None, Ok, Err, vec_items, Option, Result}
 use Rattle.networks.specs.Refusals.{report_of}
+use Rattle.networks.specs.declared.refusals.Refusal.{Refusal}
 use Rattle.networks.specs.declared.refusals.Report.{Report}
 use Rattle.walks.specs.Calls.{Asked, next, pour, seek, call_of}
 use Rattle.walks.specs.Events.{Event, gives, refuses, pours, finds, misses}
-use Rattle.walks.specs.declared.turns.Answer.{Answer}
-use Rattle.walks.specs.declared.turns.Answer.TheVariants.{Awaited, Done, Refused, Poured}
 use Rattle.walks.specs.declared.turns.Call.{Call}
 use Rattle.walks.specs.declared.turns.Call.TheVariants.{Next, Pour, Seek}
+use Rattle.walks.specs.declared.turns.Reply.{Reply}
+use Rattle.walks.specs.declared.turns.Reply.TheVariants.{Done, Poured}
 use Rattle.walks.specs.declared.turns.Turn.{Turn}
 
 -- An answer as the outside sees it.
@@ -23,12 +24,12 @@ asked_by (Next list) = next (vec_items list)
 asked_by (Pour limit) = pour limit
 asked_by (Seek row) = seek (vec_items row)
 
--- What an answer says.
-abbrev pub heard_from : Answer → Heard
-heard_from Awaited = nothing
-heard_from Done = done
-heard_from (Refused refusal) = refused (report_of refusal)
-heard_from (Poured count letter) = poured count letter
+-- What an answer says, once there is one.
+abbrev pub heard_from : Option (Result Reply Refusal) → Heard
+heard_from None = nothing
+heard_from (Some (Ok Done)) = done
+heard_from (Some (Ok (Poured count letter))) = poured count letter
+heard_from (Some (Err refusal)) = refused (report_of refusal)
 
 -- What is heard of a call that answers nothing but whether it was refused.
 abbrev pub heard_as : Option Report → Heard

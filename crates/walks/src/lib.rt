@@ -13,12 +13,11 @@ mod pouring;
 mod stepping;
 pub mod substituting;
 mod theorems;
-mod translating;
 pub mod turns;
 pub mod walking;
 mod walks;
 
 pub use endings::Ending;
 pub use performing::{perform, perform_both};
-pub use turns::{Answer, Call, Turn};
+pub use turns::{Answer, Call, Reply, Turn};
 pub use walks::Walk;

@@ -30,23 +30,23 @@ fn go_back(rows: &mut Rows, kept: &Kept)
 
 /// Offers the row that follows to the receiver, and moves on if it is taken. Answers why no row could be
 /// given; then the walk and the receiver are as before.
-fn offer<R: Receiver>(rows: &mut Rows, receiver: &mut R) -> Option<Ending>
+fn offer<R: Receiver>(rows: &mut Rows, receiver: &mut R) -> Result<(), Ending>
     ensures plan { plan_of rows.new ≡ plan_of rows.old }
     ensures does { (L : List (List ℕ)) → ListedBy (plan_of rows.old) L → OfferDoes L (SitesJoined (graph_of (plan_of rows.old))) (R.Receiver.rule receiver.old) (place_in rows.old) (R.Receiver.held receiver.old) result (place_in rows.new) (R.Receiver.held receiver.new) }
     ensures serves { Serves R.Receiver.rule R.Receiver.spare R.Receiver.lender receiver.old receiver.new }
 {
     if !rows.joined() {
-        return Some(Ending::NotJoined);
+        return Err(Ending::NotJoined);
     }
     let kept = rows.kept();
     if !rows.advance() {
-        return Some(Ending::NoneFollows);
+        return Err(Ending::NoneFollows);
     }
     if receiver.take(rows.row()) {
-        return None;
+        return Ok(());
     }
     go_back(rows, &kept);
-    Some(Ending::NotTaken)
+    Err(Ending::NotTaken)
 }
 
 /// Offers the row that follows again and again, until so many are taken or a reason ends it. Answers how many
@@ -56,12 +56,10 @@ pub(crate) fn pour_rows<R: Receiver>(rows: &mut Rows, receiver: &mut R, limit: u
     ensures does { (L : List (List ℕ)) → ListedBy (plan_of rows.old) L → PourDoes L (SitesJoined (graph_of (plan_of rows.old))) (R.Receiver.rule receiver.old) (place_in rows.old) (R.Receiver.held receiver.old) limit result.0 (letter_of result.1) (place_in rows.new) (R.Receiver.held receiver.new) }
     ensures serves { Serves R.Receiver.rule R.Receiver.spare R.Receiver.lender receiver.old receiver.new }
 {
-    let mut count = 0;
-    while count < limit {
-        if let Some(ending) = offer(rows, receiver) {
+    for count in 0..limit {
+        if let Err(ending) = offer(rows, receiver) {
             return (count, ending);
         }
-        count += 1;
     }
-    (count, Ending::LimitReached)
+    (limit, Ending::LimitReached)
 }

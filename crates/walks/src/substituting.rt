@@ -1,6 +1,6 @@
 //! Substitutes for a link of the walk's row.
 
-ghost use Rattle.std.specs.Prelude.{◌≡◌, true, IfOk, Decides, OnOk};
+ghost use Rattle.std.specs.Prelude.{◌≡◌, true, IfOk, OnOk};
 ghost use Rattle.forests.specs.Lists.{In};
 ghost use Rattle.networks.specs.Networks.{network_graph, weights_of};
 ghost use Rattle.networks.specs.Refusals.{refusal_of};
@@ -8,23 +8,10 @@ ghost use Rattle.cheapest.specs.Positions.{is_on};
 ghost use Rattle.walks.specs.Substitutes.{Answers, AskedFor};
 ghost use Rattle.walks.specs.Walks.{network_of, place_in, place_of, row_at, Begun};
 
-use crate::stepping::shown;
 use crate::walks::Walk;
 use cheapest::Rows;
 use networks::Refusal;
 use weights::WeightKind;
-
-/// Whether the link is in the row.
-fn has_link(row: &[u16], link: u16) -> bool
-    ensures { Decides result (In link row.now) }
-{
-    for i in 0..row.len() {
-        if row[i] == link {
-            return true;
-        }
-    }
-    false
-}
 
 /// Refuses a question before the walk is on a row, and for a link that is not in the row.
 fn check_link(rows: &Rows, link: u16) -> Result<(), Refusal>
@@ -35,31 +22,20 @@ fn check_link(rows: &Rows, link: u16) -> Result<(), Refusal>
     if !rows.is_on() {
         return Err(Refusal::NotOnRow);
     }
-    if !has_link(shown(rows), link) {
+    if !rows.row().contains(&link) {
         return Err(Refusal::NotInRow(link));
     }
     Ok(())
 }
 
 impl<K: WeightKind> Walk<K> {
-    /// The substitute of a link of the row.
-    fn stand_in(&self, link: u16) -> Option<u16>
-        requires on { is_on self.now.rows ≡ true }
-        requires inside { In link (row_at (place_of self.now)) }
-        ensures { Begun K.WeightKind.weighing self.now → Answers (network_graph (network_of self.now)) K.WeightKind.weighing.scale (weights_of K.WeightKind.weighing (network_of self.now)) (row_at (place_of self.now)) link result }
-    {
-        self.rows.substitute(link)
-    }
-
     /// Another link that can take the place of this one in the walk's row, such that it is again the row of a
     /// cheapest tree; or none if there is no such link. The cost is one run over the links.
     pub fn substitute(&self, link: u16) -> Result<Option<u16>, Refusal>
         ensures refuses { AskedFor (place_of self.now) link (refusal_of result) }
         ensures answers { IfOk result (λ answer. Begun K.WeightKind.weighing self.now → Answers (network_graph (network_of self.now)) K.WeightKind.weighing.scale (weights_of K.WeightKind.weighing (network_of self.now)) (row_at (place_of self.now)) link answer) }
     {
-        match check_link(&self.rows, link) {
-            Ok(()) => Ok(self.stand_in(link)),
-            Err(refusal) => Err(refusal),
-        }
+        check_link(&self.rows, link)?;
+        Ok(self.rows.substitute(link))
     }
 }

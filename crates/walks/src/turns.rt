@@ -13,22 +13,21 @@ pub enum Call {
     Seek(Vec<u16>),
 }
 
-/// The answer to a call.
-#[derive(Clone, Copy)]
-pub enum Answer {
-    /// The call was not performed yet.
-    Awaited,
+/// What a call that is not refused replies.
+#[derive(Clone, Copy, PartialEq, Eq, Debug)]
+pub enum Reply {
     /// Next wrote a row, or seek accepted one.
     Done,
-    /// The call was refused.
-    Refused(Refusal),
     /// Pour gave so many rows, and ended for the reason of this letter.
     Poured(u32, char),
 }
 
-/// A call and its answer.
+/// The answer to a call: its reply, or why it was refused.
+pub type Answer = Result<Reply, Refusal>;
+
+/// A call and its answer, once it was performed.
 #[derive(Drop)]
 pub struct Turn {
     pub call: Call,
-    pub answer: Answer,
+    pub answer: Option<Answer>,
 }

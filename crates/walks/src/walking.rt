@@ -4,30 +4,15 @@ ghost use Rattle.std.specs.Prelude.{◌≡◌, None};
 ghost use Rattle.networks.specs.Refusals.{refusal_of};
 ghost use Rattle.receivers.specs.Rules.{Serves};
 ghost use Rattle.walks.specs.Acts.{Stays, NextActs, SeekActs, PourActs};
-ghost use Rattle.walks.specs.Letters.{letter_of};
 ghost use Rattle.walks.specs.Walks.{network_of, place_of, row_at, Begun, OneList};
 
-use crate::endings::Ending;
-use crate::stepping::shown;
-use crate::translating::rows_of;
+use crate::pouring::pour_rows;
+use crate::stepping::{next_row, seek_row};
 use crate::walks::Walk;
+use cheapest::Rows;
 use networks::{Layer, Network, Refusal};
 use receivers::Receiver;
 use weights::WeightKind;
-
-impl Ending {
-    /// The letter of this ending: `L`, `Z`, `X` or `F`.
-    pub fn letter(&self) -> char
-        ensures { result ≡ letter_of self.now }
-    {
-        match self {
-            Ending::LimitReached => 'L',
-            Ending::NotJoined => 'Z',
-            Ending::NoneFollows => 'X',
-            Ending::NotTaken => 'F',
-        }
-    }
-}
 
 impl<K: WeightKind> Walk<K> {
     /// Begins a walk through the full list of the network, and holds the network until the walk ends. The cost
@@ -38,7 +23,7 @@ impl<K: WeightKind> Walk<K> {
         ensures begun { Begun K.WeightKind.weighing result }
         ensures listed { OneList K.WeightKind.weighing network }
     {
-        let rows = rows_of(&network);
+        let rows = Rows::new(network.plan());
         Walk { network, rows }
     }
 
@@ -54,7 +39,7 @@ impl<K: WeightKind> Walk<K> {
     pub fn row(&self) -> &[u16]
         ensures { result.now ≡ row_at (place_of self.now) }
     {
-        shown(&self.rows)
+        self.rows.row()
     }
 
     /// The network that is walked through.
@@ -75,7 +60,7 @@ impl<K: WeightKind> Walk<K> {
         if places < self.network.sites() as usize - 1 {
             return Err(Refusal::ShortList(Layer::Walk, places));
         }
-        self.next_into(list)
+        next_row(&mut self.rows, list)
     }
 
     /// Moves to the row, if it is in the full list; a refusal leaves the walk where it is.
@@ -83,7 +68,7 @@ impl<K: WeightKind> Walk<K> {
         ensures acts { SeekActs K.WeightKind.weighing self.old self.new row.now (refusal_of result) }
         ensures stays { Stays K.WeightKind.weighing self.old self.new }
     {
-        self.move_to(row)
+        seek_row(&mut self.rows, row)
     }
 
     /// Offers the row that follows to the receiver, again and again, and moves on when it is taken. Answers how
@@ -95,6 +80,7 @@ impl<K: WeightKind> Walk<K> {
         ensures stays { Stays K.WeightKind.weighing self.old self.new }
         ensures serves { Serves R.Receiver.rule R.Receiver.spare R.Receiver.lender receiver.old receiver.new }
     {
-        self.pour_into(receiver, limit)
+        let (count, ending) = pour_rows(&mut self.rows, receiver, limit);
+        (count, ending.letter())
     }
 }

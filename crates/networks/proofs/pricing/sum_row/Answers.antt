@@ -22,13 +22,3 @@ loop-entry-preserved g c =
       sum_more k.weighing.scale g.met.K.WeightKind.lawful w row index (k.sum c.loop-entry.total) (k.sum c.add.new.total) (w link)
           c.loop-entry-test.true c.loop-entry.invariant.2 (c.add.ensures.adds room ∙ ap (k.weighing.scale.add (k.sum c.loop-entry.total)) (sym weight)) refl,
     )
-
-pub returns : goal.returns
-returns g c =
-    let k = g.K.WeightKind in
-    let w : ℕ → k.weighing.scale.Amount = weight_of k.weighing c.args.links.now in
-    record {
-      sums = c.loop-entry.invariant.2 ∙ ap (λ xs. sum_of k.weighing.scale (map w xs)) (take_all c.loop-entry.entry-index c.args.row.now c.loop-entry-test.false);
-      counts = c.loop-entry.invariant.0 ∙ omega arith;
-      level = c.loop-entry.invariant.1;
-    }

@@ -1,4 +1,4 @@
-use Rattle.std.proofs.Common.{◌≡◌, ℕ, List, vec_items, sym, refl, ap, ◌∙◌}
+use Rattle.std.proofs.Common.{rules, ◌≡◌, ℕ, List, vec_items, sym, refl, ap, ◌∙◌}
 use Rattle.forests.specs.Graphs.{SitesJoined}
 use Rattle.networks.specs.Networks.{network_graph}
 use Rattle.networks.specs.Refusals.{refusal_of}
@@ -6,7 +6,7 @@ use Rattle.walks.specs.Calls.{next, seek}
 use Rattle.walks.specs.Turns.{asked_by}
 use Rattle.walks.specs.Walks.{place_of, row_size}
 use Rattle.receivers.proofs.Serving.{serves_same}
-use Rattle.walks.proofs.Performed.{take_front, next_event, seek_event, pour_event, asked_as, heard_alike, left_as}
+use Rattle.walks.proofs.Performed.{take_front, next_event, seek_event, pour_event, asked_as, heard_alike, heard_done, left_as}
 use Rattle.walks.proofs.performing.act.Goals as goal
 
 pub returns-in-Next : goal.returns-in-Next
@@ -22,7 +22,7 @@ returns-in-Next g c =
           asked_as L (row_size walk.network) (SitesJoined (network_graph walk.network)) (ρ.rule r) (place_of walk) (ρ.held r) (ap asked_by c.in-Next.is ∙ ap (λ (xs : List ℕ). next xs) (sym same))
           (left_as L (row_size walk.network) (SitesJoined (network_graph walk.network)) (ρ.rule r) (place_of walk) (ρ.held r)
           (ap (λ (xs : List ℕ). next xs) (take_front n.new.list _ c.in-Next.list.len (n.auto.list ∙ c.deref_mut.ensures.len)))
-          (heard_alike L (row_size walk.network) (SitesJoined (network_graph walk.network)) (ρ.rule r) (place_of walk) (ρ.held r) c.answer_of.ensures
+          (heard_alike L (row_size walk.network) (SitesJoined (network_graph walk.network)) (ρ.rule r) (place_of walk) (ρ.held r) (heard_done n.result c.map.result (search rules))
           (next_event L (row_size walk.network) (SitesJoined (network_graph walk.network)) (ρ.rule r) (place_of walk) (ρ.held r) list n.new.list (refusal_of n.result) (place_of n.new.self)
           (n.ensures.acts b L full))));
       stays = n.ensures.stays;
@@ -55,7 +55,7 @@ returns-in-Seek g c =
       performs = λ b L full.
           asked_as L (row_size walk.network) (SitesJoined (network_graph walk.network)) (ρ.rule r) (place_of walk) (ρ.held r) (ap asked_by c.in-Seek.is ∙ ap (λ (xs : List ℕ). seek xs) (sym same))
           (left_as L (row_size walk.network) (SitesJoined (network_graph walk.network)) (ρ.rule r) (place_of walk) (ρ.held r) (ap (λ (xs : List ℕ). seek xs) (sym same))
-          (heard_alike L (row_size walk.network) (SitesJoined (network_graph walk.network)) (ρ.rule r) (place_of walk) (ρ.held r) c.answer_of-in-Seek.ensures
+          (heard_alike L (row_size walk.network) (SitesJoined (network_graph walk.network)) (ρ.rule r) (place_of walk) (ρ.held r) (heard_done s.result c.map-in-Seek.result (search rules))
           (seek_event L (row_size walk.network) (SitesJoined (network_graph walk.network)) (ρ.rule r) (place_of walk) (ρ.held r) c.deref.result.now (refusal_of s.result) (place_of s.new.self)
           (s.ensures.acts b L full))));
       stays = s.ensures.stays;

@@ -1,13 +1,13 @@
-use Rattle.std.proofs.Common.{refl, ◌∙◌, arith}
+use Rattle.std.proofs.Common.{◌≡◌, refl, ◌∙◌, subst, arith}
 use Rattle.receivers.proofs.Serving.{serves_same, serves_then}
-use Rattle.walks.proofs.Poured.{taken_none, taken_more, taken_ends, taken_all}
+use Rattle.walks.proofs.Poured.{Taken, taken_none, taken_more, taken_ends, taken_all}
 use Rattle.walks.proofs.pouring.pour_rows.Goals as goal
 
 pub loop-count-init : goal.loop-count-init
 loop-count-init g c =
     let k = g.R.Receiver in
     let r = c.args.receiver.now in
-    (omega arith, taken_none c.args.rows.now (k.rule r) (k.held r), serves_same r)
+    (taken_none c.args.rows.now (k.rule r) (k.held r), serves_same _)
 
 pub loop-count-preserved : goal.loop-count-preserved
 loop-count-preserved g c =
@@ -17,14 +17,15 @@ loop-count-preserved g c =
     let r = c.args.receiver.now in
     let now = c.loop-count.receiver in
     let next = c.offer.new.receiver in (
-      omega (arith, c.loop-count-test.true),
       taken_more c.args.rows.now c.loop-count.rows c.offer.new.rows (k.rule r) (k.rule now) (k.held r) (k.held now) (k.held next)
-          c.loop-count.count c.offer.result i.1 i.2.rule o.does c.in_default.is o.plan,
-      serves_then i.2 o.serves,
+          c.loop-count.count c.offer.result i.0 i.1 o.does c.in_default.is o.plan,
+      o.rule ∙ i.1,
+      end_end (k.spare r) (k.spare now) (k.spare next) i.2 o.spare,
+      o.lender ∙ i.3,
     )
 
-pub returns-in-Some : goal.returns-in-Some
-returns-in-Some g c =
+pub returns-in-Err : goal.returns-in-Err
+returns-in-Err g c =
     let k = g.R.Receiver in
     let i = c.loop-count.invariant in
     let o = c.offer.ensures in
@@ -32,10 +33,12 @@ returns-in-Some g c =
     let now = c.loop-count.receiver in
     let next = c.offer.new.receiver in
     record {
-      plan = o.plan ∙ i.1.plan;
+      plan = o.plan ∙ i.0.plan;
       does = taken_ends c.args.rows.now c.loop-count.rows c.offer.new.rows (k.rule r) (k.rule now) (k.held r) (k.held now) (k.held next)
-          c.loop-count.count c.offer.result i.1 i.2.rule o.does c.in-Some.ending c.args.limit c.in-Some.is c.loop-count-test.true;
-      serves = serves_then i.2 o.serves;
+          c.loop-count.count c.offer.result i.0 i.1 o.does c.in-Err.ending c.args.limit c.in-Err.is c.loop-count-test.true;
+      rule = o.rule ∙ i.1;
+      spare = end_end (k.spare r) (k.spare now) (k.spare next) i.2 o.spare;
+      lender = o.lender ∙ i.3;
     }
 
 pub returns : goal.returns
@@ -43,8 +46,12 @@ returns g c =
     let k = g.R.Receiver in
     let r = c.args.receiver.now in
     let i = c.loop-count.invariant in
+    let all : c.loop-count.count ≡ c.args.limit = (let most = c.loop-count.auto.count-end in let done = c.loop-count-test.false in omega arith) in
     record {
-      plan = i.1.plan;
-      does = taken_all c.args.rows.now c.loop-count.rows (k.rule r) (k.held r) (k.held c.loop-count.receiver) c.loop-count.count c.args.limit i.1 (omega arith);
-      serves = i.2;
+      plan = i.0.plan;
+      does = taken_all c.args.rows.now c.loop-count.rows (k.rule r) (k.held r) (k.held c.loop-count.receiver) c.args.limit
+          (subst (Taken c.args.rows.now c.loop-count.rows (k.rule r) (k.held r) (k.held c.loop-count.receiver)) all i.0);
+      rule = i.1;
+      spare = i.2;
+      lender = i.3;
     }

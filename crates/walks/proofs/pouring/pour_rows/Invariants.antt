@@ -1,4 +1,4 @@
-use Rattle.std.proofs.Common.{◌≡◌, ◌-◌, ◌≤◌}
+use Rattle.std.proofs.Common.{◌≡◌}
 use Rattle.receivers.specs.Rules.{Serves}
 use Rattle.walks.proofs.Poured.{Taken}
 use Rattle.walks.proofs.pouring.pour_rows.Given as goal
@@ -8,8 +8,5 @@ invariant-loop-count g l =
     let k = g.R.Receiver in
     let was = l.initial.receiver in
     let is = l.receiver in
-    (l.count ≤ l.limit) × Taken l.initial.rows l.rows (k.rule was) (k.held was) (k.held is) l.count
+    Taken l.initial.rows l.rows (k.rule was) (k.held was) (k.held is) l.count
     × Serves k.rule k.spare k.lender was is
-
-abbrev pub decreases-loop-count : goal.decreases-loop-count
-decreases-loop-count g l = l.limit - l.count

@@ -37,7 +37,7 @@ returns c =
               room = omega arith;
               joined = joined;
               not_last = not_last L (listed_once _ _ L full) _ (row_of after) [] comes;
-              writes = subst (λ (r : List ℕ). c.write_row.new.list ≡ r ++ drop (length r) c.args.list.now) c.row.ensures c.write_row.ensures;
+              writes = rw (c.copy_from_slice.ensures.after, c.row-row.ensures);
             },
             place_on after steps.on,
           );

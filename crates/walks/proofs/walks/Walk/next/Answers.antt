@@ -4,7 +4,7 @@ use Rattle.networks.specs.Refusals.{refusal_of}
 use Rattle.walks.specs.Doing.{NextDoes}
 use Rattle.walks.specs.Walks.{place_in}
 use Rattle.walks.proofs.FromPlans.{listed_by, still_begun}
-use Rattle.walks.proofs.walks.Walk.next_into.Goals as goal
+use Rattle.walks.proofs.walks.Walk.next.Goals as goal
 
 pub returns : goal.returns
 returns g c =

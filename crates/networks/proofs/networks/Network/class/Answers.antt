@@ -1,9 +1,9 @@
 use Rattle.networks.specs.Networks.{network_graph, weights_of}
 use Rattle.networks.proofs.Asked.{class_asked}
-use Rattle.networks.proofs.networks.Network.class_of.Goals as goal
+use Rattle.networks.proofs.networks.Network.class.Goals as goal
 
-pub returns : goal.returns
-returns g c =
+pub returns-clause-answers : goal.returns-clause-answers
+returns-clause-answers g c =
     let k = g.K.WeightKind in
     let n = c.args.self.now in
     class_asked c.plan.result (network_graph n) c.plan.ensures.graph k.weighing.scale g.met.K.WeightKind.lawful

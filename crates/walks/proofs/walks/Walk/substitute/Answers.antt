@@ -6,15 +6,16 @@ use Rattle.networks.specs.Networks.{network_graph, weights_of}
 use Rattle.walks.specs.Walks.{row_at, place_of}
 use Rattle.walks.proofs.Moves.{place_on}
 use Rattle.walks.proofs.StandIns.{answered}
-use Rattle.walks.proofs.walks.Walk.stand_in.Goals as goal
+use Rattle.walks.proofs.walks.Walk.substitute.Goals as goal
 
-pub returns : goal.returns
-returns g c b =
+pub returns-clause-answers : goal.returns-clause-answers
+returns-clause-answers g c b =
     let k = g.K.WeightKind in
     let walk = c.args.self.now in
     let p = plan_of walk.rows in
     let link = c.args.link in
-    let row : row_at (place_of walk) ≡ row_of walk.rows = ap row_at (place_on walk.rows c.requires.on) in
+    let checked = c.in_ok-check_link.ensures in
+    let row : row_at (place_of walk) ≡ row_of walk.rows = ap row_at (place_on walk.rows checked.on) in
     answered p (network_graph walk.network) b.graph k.weighing.scale g.met.K.WeightKind.lawful (weights_of k.weighing walk.network) b.alike (row_at (place_of walk)) link
-    c.substitute.result c.requires.inside
+    c.substitute.result checked.inside
     (subst (λ (r : List ℕ). MatchOption c.substitute.result ((f : ℕ) → In link r → StandsIn p r link f → ⊥) (λ f. FirstStandIn p r link f)) (sym row) c.substitute.ensures)

@@ -1,6 +1,6 @@
 use Rattle.std.proofs.Common.{refl}
 use Rattle.walks.proofs.FromPlans.{listed_by, still_begun}
-use Rattle.walks.proofs.walks.Walk.move_to.Goals as goal
+use Rattle.walks.proofs.walks.Walk.seek.Goals as goal
 
 pub returns : goal.returns
 returns g c =
