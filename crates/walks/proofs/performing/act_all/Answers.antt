@@ -9,7 +9,7 @@ loop-turn-init g c =
     let k = g.K.WeightKind in
     let ρ = g.R.Receiver in
     let r = c.args.receiver.now in
-    (ran_none k.weighing g.met.K.WeightKind.lawful c.args.walk.now (ρ.rule r) (ρ.held r) c.args.turns.now c.requires.begun c.requires.before, refl, end_self _, refl)
+    (ran_none k.weighing g.met.K.WeightKind.lawful c.args.walk.now (ρ.rule r) (ρ.held r) c.args.turns.now c.requires.begun c.requires.before, serves_same r)
 
 pub loop-turn-preserved : goal.loop-turn-preserved
 loop-turn-preserved g c =

@@ -7,7 +7,7 @@ pub loop-count-init : goal.loop-count-init
 loop-count-init g c =
     let k = g.R.Receiver in
     let r = c.args.receiver.now in
-    (taken_none c.args.rows.now (k.rule r) (k.held r), serves_same _)
+    (taken_none c.args.rows.now (k.rule r) (k.held r), serves_same r)
 
 pub loop-count-preserved : goal.loop-count-preserved
 loop-count-preserved g c =
@@ -18,10 +18,8 @@ loop-count-preserved g c =
     let now = c.loop-count.receiver in
     let next = c.offer.new.receiver in (
       taken_more c.args.rows.now c.loop-count.rows c.offer.new.rows (k.rule r) (k.rule now) (k.held r) (k.held now) (k.held next)
-          c.loop-count.count c.offer.result i.0 i.1 o.does c.in_default.is o.plan,
-      o.rule ∙ i.1,
-      end_end (k.spare r) (k.spare now) (k.spare next) i.2 o.spare,
-      o.lender ∙ i.3,
+          c.loop-count.count c.offer.result i.0 i.1.rule o.does c.in_default.is o.plan,
+      serves_then i.1 o.serves,
     )
 
 pub returns-in-Err : goal.returns-in-Err
@@ -35,10 +33,8 @@ returns-in-Err g c =
     record {
       plan = o.plan ∙ i.0.plan;
       does = taken_ends c.args.rows.now c.loop-count.rows c.offer.new.rows (k.rule r) (k.rule now) (k.held r) (k.held now) (k.held next)
-          c.loop-count.count c.offer.result i.0 i.1 o.does c.in-Err.ending c.args.limit c.in-Err.is c.loop-count-test.true;
-      rule = o.rule ∙ i.1;
-      spare = end_end (k.spare r) (k.spare now) (k.spare next) i.2 o.spare;
-      lender = o.lender ∙ i.3;
+          c.loop-count.count c.offer.result i.0 i.1.rule o.does c.in-Err.ending c.args.limit c.in-Err.is c.loop-count-test.true;
+      serves = serves_then i.1 o.serves;
     }
 
 pub returns : goal.returns
@@ -51,7 +47,5 @@ returns g c =
       plan = i.0.plan;
       does = taken_all c.args.rows.now c.loop-count.rows (k.rule r) (k.held r) (k.held c.loop-count.receiver) c.args.limit
           (subst (Taken c.args.rows.now c.loop-count.rows (k.rule r) (k.held r) (k.held c.loop-count.receiver)) all i.0);
-      rule = i.1;
-      spare = i.2;
-      lender = i.3;
+      serves = i.1;
     }
