@@ -1,102 +1,112 @@
 //! The networks that are gone over.
 
-ghost use Rattle.std.specs.Prelude.{◌≡◌, ℕ, ◌%◌, ◌<◌, ◌≤◌, length};
+ghost use Rattle.std.specs.Prelude.{◌≡◌, ℕ, ◌+◌, ◌-◌, ◌*◌, ◌^◌, ◌<◌, ◌≤◌, vec_len, IfOk, OnOk, bit_or};
+ghost use Rattle.exhaustive.specs.Sets.{has};
 
 use networks::Link;
+use std::alloc::{AllocError, Global};
 use weights::Metres;
 
-/// A network of 1 to 4 sites and at most 4 links. Places past the number of links hold nothing of meaning.
-#[derive(Clone, Copy)]
+/// A link of a network. Links are ordered by rank: by their metres, and by their numbers where these are equal.
+#[derive(Clone, Copy, PartialEq, Eq, PartialOrd, Ord)]
+pub struct Drawn {
+    pub metres: u8,
+    pub number: u8,
+    pub from: u8,
+    pub to: u8,
+    ghost few: { number < 4 },
+    ghost near: { from < 4 },
+    ghost far: { to < 4 },
+}
+
+impl Drawn {
+    /// This link with another number.
+    pub(crate) fn numbered(self, number: u8) -> Drawn
+        requires { number < 4 }
+        ensures numbers { result.number ≡ number }
+        ensures weighs { result.metres ≡ self.metres }
+        ensures ends { (result.from ≡ self.from) × (result.to ≡ self.to) }
+    {
+        Drawn {
+            metres: self.metres,
+            number,
+            from: self.from,
+            to: self.to,
+        }
+    }
+
+    /// The record of the link.
+    pub(crate) fn record(&self) -> Link<Metres>
+        ensures ends { (result.from ≡ self.now.from) × (result.to ≡ self.now.to) }
+        ensures weighs { result.weight.0 ≡ self.now.metres }
+    {
+        Link {
+            from: self.from,
+            to: self.to,
+            weight: Metres(u32::from(self.metres)),
+        }
+    }
+
+    /// Whether the link is in the set.
+    pub(crate) fn is_in(&self, set: u8) -> bool
+        ensures { result ≡ has set self.now.number }
+    {
+        set >> self.number & 1 == 1
+    }
+
+    /// The two sites of the link, as a set.
+    pub(crate) fn ends(&self) -> u8
+        ensures { result ≡ bit_or (2 ^ self.now.from) (2 ^ self.now.to) }
+    {
+        1 << self.from | 1 << self.to
+    }
+}
+
+/// A network of 1 to 4 sites and at most 4 links.
+#[derive(Drop)]
 pub struct Case {
     pub sites: u8,
-    pub count: usize,
-    pub links: [Link<Metres>; 4],
-    /// The two sites of each link, as a set: site 0 is 1, site 1 is 2, site 2 is 4, site 3 is 8.
-    pub ends: [u8; 4],
-    /// The metres of each link.
-    pub metres: [u8; 4],
+    pub links: Vec<Drawn>,
+    ghost some: { 1 ≤ sites },
     ghost few: { sites ≤ 4 },
-    ghost room: { count ≤ 4 },
-    ghost wide: { length links ≡ 4 },
-    ghost wideends: { length ends ≡ 4 },
-    ghost widemetres: { length metres ≡ 4 },
+    ghost room: { vec_len links ≤ 4 },
 }
 
-/// The pairs of sites, those of fewer sites first: both ends, and the two as a set.
-const PAIRS: [(u8, u8, u8); 6] = [
-    (0, 1, 3),
-    (0, 2, 5),
-    (1, 2, 6),
-    (0, 3, 9),
-    (1, 3, 10),
-    (2, 3, 12),
-];
-
-/// How many lists of links there are between 1 to 4 sites, by the number of links. A link has one of the pairs of sites
-/// and one of three weights.
-pub const LISTS: [[u32; 5]; 4] = [
-    [1, 0, 0, 0, 0],
-    [1, 3, 9, 27, 81],
-    [1, 9, 81, 729, 6561],
-    [1, 18, 324, 5832, 104976],
-];
-
-/// How many pairs of sites there are, by the sites; for a single one the first pair is there to divide by, and is used by
-/// no list.
-const PAIRS_OF: [u32; 4] = [1, 1, 3, 6];
-
-/// The network of so many sites whose links are the digits of the number, the first link being the last digit. A digit
-/// counts the weights of a pair first.
-pub(crate) fn numbered(sites: u8, count: usize, number: u32) -> Case
-    requires { (1 ≤ sites) × (sites ≤ 4) × (count ≤ 4) }
-    ensures { (result.sites ≡ sites) × (result.count ≡ count) }
+/// Adds a link between the two sites of each weight: 0 to 2 metres.
+fn choose_between(choices: &mut Vec<Drawn>, from: u8, to: u8) -> Result<(), AllocError>
+    requires { (from < 4) × (to < 4) }
+    ensures { OnOk result (vec_len choices.new ≡ vec_len choices.old + 3) }
 {
-    let choices = choices(sites);
-    let mut links = [BLANK; 4];
-    let mut ends = [0; 4];
-    let mut metres = [0; 4];
-    let mut rest = number;
-    for place in 0..count {
-        let (link, of_link) = chosen(rest % choices);
-        links[place] = link;
-        ends[place] = of_link;
-        metres[place] = (rest % choices % 3) as u8;
-        rest = rest / choices;
+    for metres in 0..3 {
+        choices.push(Drawn {
+            metres,
+            number: 0,
+            from,
+            to,
+        })?;
     }
-    Case {
-        sites,
-        count,
-        links,
-        ends,
-        metres,
+    Ok(())
+}
+
+/// Adds the links between the site and each that has a lower number.
+fn choose_back(choices: &mut Vec<Drawn>, to: u8) -> Result<(), AllocError>
+    requires { to < 4 }
+    ensures { OnOk result (vec_len choices.new ≡ vec_len choices.old + 3 * to) }
+{
+    for from in 0..to {
+        choose_between(choices, from, to)?;
     }
+    Ok(())
 }
 
-/// A link that stands for none.
-const BLANK: Link<Metres> = Link {
-    from: 0,
-    to: 0,
-    weight: Metres(0),
-};
-
-/// In how many ways a link can be chosen.
-fn choices(sites: u8) -> u32
-    requires { (1 ≤ sites) × (sites ≤ 4) }
-    ensures { (1 ≤ result) × (result ≤ 18) }
+/// The links that a network of so many sites can have as its first, number 0.
+pub(crate) fn choices(heap: Global, sites: u8) -> Result<Vec<Drawn>, AllocError>
+    requires { sites ≤ 4 }
+    ensures { IfOk result (λ v. 2 * vec_len v ≡ 3 * (sites * (sites - 1))) }
 {
-    3 * PAIRS_OF[sites as usize - 1]
-}
-
-/// The link of this choice, and its two sites as a set.
-fn chosen(choice: u32) -> (Link<Metres>, u8)
-    requires { choice < 18 }
-    ensures { result.0.weight.0 ≡ choice % 3 }
-{
-    let (from, to, ends) = PAIRS[choice as usize / 3];
-    let link = Link {
-        from,
-        to,
-        weight: Metres(choice % 3),
-    };
-    (link, ends)
+    let mut choices = Vec::new(heap);
+    for to in 0..sites {
+        choose_back(&mut choices, to)?;
+    }
+    Ok(choices)
 }

@@ -1,176 +1,192 @@
 //! What networks answer, held to what is found by looking at every set of links.
 
-ghost use Rattle.std.specs.Prelude.{◌≡◌, ℕ, ◌*◌, ◌<◌, ◌≤◌, length};
+ghost use Rattle.std.specs.Prelude.{◌≡◌, ℕ, ◌+◌, ◌*◌, ◌<◌, ◌≤◌, length, vec_len, slice_index, IfOk, OnOk};
+ghost use Rattle.networks.specs.Networks.{links_of};
+ghost use Rattle.exhaustive.specs.Trials.{IfJoined};
 
-use crate::cases::{Case, LISTS, numbered};
-use crate::rows::{Row, first_row};
-use crate::tallies::{Tally, sum};
-use crate::trees::{all_links, cheapest, class_letter, count_letter, joins};
-use networks::{Network, Refusal};
+use crate::cases::{Case, Drawn, choices};
+use crate::tallies::Tally;
+use crate::trees::class_of;
+use networks::{Class, Link, Network, Refusal};
+use std::alloc::{AllocError, Global};
+use std::array;
 use weights::Metres;
 
 /// What every place of a list holds before a trial.
 const UNTOUCHED: u16 = 7777;
 
-/// The set of all links but this one; 4 is no link.
-const OTHERS: [u8; 5] = [14, 13, 11, 7, 15];
+/// The classes with their letters.
+const CLASSES: [(char, Class); 3] = [
+    ('A', Class::Always),
+    ('S', Class::Sometimes),
+    ('N', Class::Never),
+];
+
+/// What a trial must say.
+#[derive(Drop)]
+enum Trial {
+    /// It is refused: the sites are not joined.
+    Refused,
+    /// The sites are no longer joined.
+    Apart,
+    /// The sites are still joined, and this is the first row.
+    Joined(Vec<Drawn>),
+}
 
 /// How many links have another class than by the trees.
-fn classes_differing(case: &Case, network: &Network<Metres>, trees: &[bool; 16]) -> u32
-    ensures { result ≤ case.now.count }
+fn classes_differing(case: &Case, network: &Network<Metres>, trees: &[u8]) -> usize
+    ensures { result ≤ vec_len case.now.links }
 {
-    let mut different = 0;
-    for link in 0..case.count {
-        let letter = match network.class(link as u16) {
-            Ok(class) => class.letter(),
-            Err(_) => '-',
-        };
-        if letter != class_letter(trees, link) {
-            different += 1;
-        }
-    }
-    different
+    case.links
+        .iter()
+        .filter(|link| network.class(u16::from(link.number)).ok() != Some(class_of(trees, link)))
+        .count()
 }
 
 /// How many of the three classes have another count than by the trees.
-fn counts_differing(case: &Case, network: &Network<Metres>, trees: &[bool; 16]) -> u32
+fn counts_differing(case: &Case, network: &Network<Metres>, trees: &[u8]) -> usize
     ensures { result ≤ 3 }
 {
-    let letters = ['A', 'S', 'N'];
-    let mut different = 0;
-    for i in 0..3usize {
-        let count = match network.count_class(letters[i]) {
-            Ok(count) => count,
-            Err(_) => 9,
-        };
-        if count != count_letter(case, trees, letters[i]) {
-            different += 1;
-        }
-    }
-    different
+    CLASSES
+        .iter()
+        .filter(|(letter, class)| network.count_class(*letter).ok()
+            != Some(case.count_class(trees, *class)))
+        .count()
 }
 
-/// A list of five untouched places with the row written into the first of them.
-fn written(row: &Row) -> [u16; 5]
-    ensures { length result ≡ 5 }
+/// A list of untouched places with the row written into the first of them.
+fn written(row: &[Drawn]) -> [u16; 5]
+    ensures { (k : ℕ) → length row.now ≤ k → k < 5 → slice_index result k ≡ 7777 }
+{
+    array::from_fn(|place| row
+        .get(place)
+        .map_or(UNTOUCHED, |link| u16::from(link.number)))
+}
+
+/// What a trial of this link must say.
+fn trial_expected(heap: Global, case: &Case, link: u8) -> Result<Trial, AllocError>
+    requires { link ≤ 4 }
+    ensures { IfOk result (λ trial. IfJoined trial (λ row. length row ≤ vec_len case.now.links)) }
+{
+    let links = case.all_links();
+    if !case.joined(links) {
+        return Ok(Trial::Refused);
+    }
+    let trees = case.cheapest(heap, links & !(1 << link))?;
+    Ok(match case.first_row(heap, &trees)? {
+        Some(row) => Trial::Joined(row),
+        None => Trial::Apart,
+    })
+}
+
+/// Whether a trial differs in what it says or writes.
+fn trial_differs(
+    heap: Global,
+    case: &Case,
+    network: &mut Network<Metres>,
+    link: u8,
+) -> Result<bool, AllocError>
+    requires { link ≤ 4 }
+    ensures { links_of network.new ≡ links_of network.old }
 {
     let mut list = [UNTOUCHED; 5];
-    for place in 0..row.size {
-        list[place] = row.links[place];
-    }
-    list
-}
-
-/// What a trial must say, a letter for each case, and what its list must hold: R, refused because the sites are not
-/// joined; Y, still joined; N, no longer joined.
-fn trial_expected(case: &Case, link: usize) -> (char, [u16; 5])
-    requires { link ≤ 4 }
-    ensures { length result.1 ≡ 5 }
-{
-    let links = all_links(case);
-    if !joins(case, links) {
-        return ('R', [UNTOUCHED; 5]);
-    }
-    let trees = cheapest(case, links & OTHERS[link]);
-    match first_row(case, &trees) {
-        Some(row) => ('Y', written(&row)),
-        None => ('N', [UNTOUCHED; 5]),
-    }
-}
-
-/// Whether a trial differs in what it says or writes: 1 if it does.
-fn trial_differs(case: &Case, network: &mut Network<Metres>, link: usize) -> u32
-    requires { link ≤ 4 }
-    ensures { result ≤ 1 }
-{
-    let mut list = [UNTOUCHED; 5];
-    let said = match network.trial(link as u16, &mut list) {
-        Ok(true) => 'Y',
-        Ok(false) => 'N',
-        Err(Refusal::TrialNotJoined) => 'R',
-        Err(_) => '-',
+    let said = network.trial(u16::from(link), &mut list);
+    let agrees = match (said, trial_expected(heap, case, link)?) {
+        (Err(Refusal::TrialNotJoined), Trial::Refused) => list == written(&[]),
+        (Ok(false), Trial::Apart) => list == written(&[]),
+        (Ok(true), Trial::Joined(row)) => list == written(&row),
+        _ => false,
     };
-    let (expected, row) = trial_expected(case, link);
-    if said == expected && &list[..] == &row[..] {
-        return 0;
-    }
-    1
+    Ok(!agrees)
 }
 
 /// How many trials differ, those of every link and of the number past the last.
-fn trials_differing(case: &Case, network: &mut Network<Metres>) -> u32
-    ensures { result ≤ 5 }
+fn trials_differing(
+    heap: Global,
+    case: &Case,
+    network: &mut Network<Metres>,
+) -> Result<u32, AllocError>
+    ensures few { IfOk result (λ different. different ≤ 5) }
+    ensures leaves { links_of network.new ≡ links_of network.old }
 {
     let mut different = 0;
-    for link in 0..case.count + 1 {
-        different += trial_differs(case, network, link);
+    for link in 0..case.links.len() as u8 + 1 {
+        different += u32::from(trial_differs(heap, case, network, link)?);
     }
-    different
+    Ok(different)
+}
+
+/// How many answers of the network differ. One that cannot be opened is a single difference.
+fn differing(heap: Global, case: &Case) -> Result<u32, AllocError>
+    ensures { IfOk result (λ different. different ≤ 12) }
+{
+    let links: Vec<Link<Metres>> = case.links.iter().map(|link| link.record()).collect(heap)?;
+    let Ok(mut network) = Network::open(case.sites, &links) else {
+        return Ok(1);
+    };
+    let trees = case.cheapest(heap, case.all_links())?;
+    let classes = classes_differing(case, &network, &trees) as u32;
+    let counts = counts_differing(case, &network, &trees) as u32;
+    Ok(classes + counts + trials_differing(heap, case, &mut network)?)
 }
 
 /// Compares all answers about one network.
-fn compare(case: &Case) -> Tally
-    ensures { (result.networks ≡ 1) × (result.different ≤ 12) }
+fn compare(heap: Global, case: &Case) -> Result<Tally, AllocError>
+    ensures { IfOk result (λ tally. tally.networks ≡ 1) }
 {
-    let (classes, counts, trials) = (case.count as u32, 3, case.count as u32 + 1);
-    let different = match Network::open(case.sites, &case.links[0..case.count]) {
-        Ok(mut network) => {
-            let trees = cheapest(case, all_links(case));
-            let before = classes_differing(case, &network, &trees);
-            let counts = counts_differing(case, &network, &trees);
-            before + counts + trials_differing(case, &mut network)
-        }
-        Err(_) => 1,
-    };
-    Tally {
+    let links = case.links.len() as u32;
+    Ok(Tally {
         networks: 1,
-        classes,
-        counts,
-        trials,
-        different,
-    }
+        classes: links,
+        counts: 3,
+        trials: links + 1,
+        different: differing(heap, case)?,
+    })
 }
 
-/// Compares all answers about the networks of so many sites and links.
-fn compare_lists(sites: u8, count: usize) -> Tally
-    requires { (1 ≤ sites) × (sites ≤ 4) × (count ≤ 4) }
-    ensures { result.different ≤ result.networks * 12 }
+/// Compares all answers about the network, and about each that has up to so many more links after its own.
+fn compare_extended(
+    heap: Global,
+    case: &mut Case,
+    choices: &[Drawn],
+    more: u8,
+) -> Result<Tally, AllocError>
+    requires { vec_len case.old.links + more ≤ 4 }
+    ensures compares { IfOk result (λ tally. 1 ≤ tally.networks) }
+    ensures restores { OnOk result (vec_len case.new.links ≡ vec_len case.old.links) }
 {
-    let mut tally = NOTHING;
-    for number in 0..LISTS[sites as usize - 1][count] {
-        tally = sum(tally, compare(&numbered(sites, count, number)));
+    let mut tally = compare(heap, case)?;
+    if more > 0 {
+        let number = case.links.len() as u8;
+        for choice in choices {
+            case.links.push(choice.numbered(number))?;
+            tally += compare_extended(heap, case, choices, more - 1)?;
+            case.links.pop();
+        }
     }
-    tally
+    Ok(tally)
 }
-
-/// Nothing compared yet.
-const NOTHING: Tally = Tally {
-    networks: 0,
-    classes: 0,
-    counts: 0,
-    trials: 0,
-    different: 0,
-};
 
 /// Compares all answers about the networks of so many sites.
-fn compare_sites(sites: u8) -> Tally
+fn compare_sites(heap: Global, sites: u8) -> Result<Tally, AllocError>
     requires { (1 ≤ sites) × (sites ≤ 4) }
-    ensures { result.different ≤ result.networks * 12 }
+    ensures { IfOk result (λ tally. 1 ≤ tally.networks) }
 {
-    let mut tally = NOTHING;
-    for count in 0..5usize {
-        tally = sum(tally, compare_lists(sites, count));
-    }
-    tally
+    let choices = choices(heap, sites)?;
+    let mut case = Case {
+        sites,
+        links: Vec::new(heap),
+    };
+    compare_extended(heap, &mut case, &choices, 4)
 }
 
 /// Compares all answers about all networks.
-pub(crate) fn compare_all() -> Tally
-    ensures { result.different ≤ result.networks * 12 }
+pub(crate) fn compare_all(heap: Global) -> Result<Tally, AllocError>
+    ensures { IfOk result (λ tally. 4 ≤ tally.networks) }
 {
-    let mut tally = NOTHING;
-    for sites in 1..5u8 {
-        tally = sum(tally, compare_sites(sites));
+    let mut tally = compare_sites(heap, 1)?;
+    for sites in 2..5 {
+        tally += compare_sites(heap, sites)?;
     }
-    tally
+    Ok(tally)
 }

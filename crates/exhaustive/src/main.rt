@@ -13,7 +13,7 @@ use comparing::compare_all;
 use std::io;
 
 fn main(rt: HostRuntime) -> io::Result<()> {
-    let t = compare_all();
+    let t = compare_all(rt.alloc())?;
     println!(rt;
         "networks {} classes {} counts {} trials {} different {}",
         t.networks, t.classes, t.counts, t.trials, t.different

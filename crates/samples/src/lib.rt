@@ -2,6 +2,7 @@
 
 #![tactic(auto)]
 
+mod drawn;
 mod edges;
 mod networks_of_records;
 mod outcomes;

@@ -2,39 +2,15 @@
 
 #[cfg(test)]
 pub mod tests {
-    use crate::outcomes::tests::{outcome, refused};
-    use networks::{Layer, Link, Network, Report, price};
+    use crate::drawn::{link, pair, sample};
+    use crate::outcomes::tests::{in_network, opened, outcome};
+    use networks::{Link, Network, price};
     use std::test::Fail;
-    use weights::{Crossings, Metres, Pair};
-
-    fn link(from: u8, to: u8, metres: u32) -> Link<Metres> {
-        Link {
-            from,
-            to,
-            weight: Metres(metres),
-        }
-    }
-
-    // The sample network of four sites and five links.
-    fn sample() -> [Link<Metres>; 5] {
-        [
-            link(0, 1, 2),
-            link(1, 2, 2),
-            link(0, 2, 2),
-            link(2, 3, 1),
-            link(1, 3, 2),
-        ]
-    }
-
-    fn in_network(number: u8, place: usize) -> Option<Report> {
-        refused(Layer::Network, number, place)
-    }
+    use weights::Metres;
 
     #[test]
     fn ranks_follow_weights_and_then_numbers(rt: HostRuntime) -> Result<(), Fail> {
-        let Ok(network) = Network::open(4, &sample()) else {
-            return Err(Fail::new("the sample is refused"));
-        };
+        let network = opened(4, &sample())?;
         assert_eq!(rt; network.sites(), 4);
         assert_eq!(rt; network.links(), sample().as_slice());
         assert_eq!(rt; network.ranking().numbers(), [3, 0, 1, 2, 4].as_slice());
@@ -43,20 +19,14 @@ pub mod tests {
 
     #[test]
     fn pairs_are_ranked_too(rt: HostRuntime) -> Result<(), Fail> {
-        let mut links = [Link {
+        let links = [pair(1, 10), pair(0, 900), pair(1, 9)].map(|weight| Link {
             from: 0,
             to: 1,
-            weight: Pair {
-                first: Crossings(1),
-                second: Metres(10),
-            },
-        }; 3];
-        links[1].weight.first = Crossings(0);
-        links[1].weight.second = Metres(900);
-        links[2].weight.second = Metres(9);
-        let Ok(network) = Network::open(2, &links) else {
-            return Err(Fail::new("three parallel links are refused"));
-        };
+            weight,
+        });
+        let network = Network::open(2, &links).map_err(|_| Fail::new(
+            "three parallel links are refused",
+        ))?;
         assert_eq!(rt; network.ranking().numbers(), [1, 2, 0].as_slice());
         Ok(())
     }
@@ -108,22 +78,20 @@ pub mod tests {
         );
     }
 
+    // The price of a row of the sample network.
+    fn metres(row: &[u16]) -> Option<u64> {
+        price(&sample(), row).ok().map(|total| total.metres())
+    }
+
     #[test]
-    fn prices_add_up_to_sixty_three_weights(rt: HostRuntime) -> Result<(), Fail> {
+    fn prices_add_up_to_sixty_three_weights(rt: HostRuntime) {
         let links = sample();
-        match price(&links, &[0, 1, 4]) {
-            Ok(total) => assert_eq!(rt; total.metres(), 6),
-            Err(_) => return Err(Fail::new("the row has a price")),
-        }
-        match price(&links, &[]) {
-            Ok(total) => assert_eq!(rt; total.metres(), 0),
-            Err(_) => return Err(Fail::new("the empty row has a price")),
-        }
+        assert_eq!(rt; metres(&[0, 1, 4]), Some(6));
+        assert_eq!(rt; metres(&[]), Some(0));
         assert_eq!(rt; outcome(price(&links, &[0, 4])), None);
         assert_eq!(rt; outcome(price(&links, &[0, 5, 9])), in_network(14, 1));
         assert_eq!(rt; outcome(price(&links, &[1; 63])), None);
         assert_eq!(rt; outcome(price(&links, &[1; 64])), in_network(14, 63));
         assert_eq!(rt; outcome(price(&links, &[1; 65])), in_network(14, 63));
-        Ok(())
     }
 }

@@ -2,13 +2,12 @@
 
 #[cfg(test)]
 pub mod tests {
-    use networks::{Layer, Refusal, Report};
+    use networks::{Layer, Link, Network, Refusal, Report};
+    use std::test::Fail;
+    use weights::Metres;
 
     pub fn outcome<T: Drop>(r: Result<T, Refusal>) -> Option<Report> {
-        match r {
-            Ok(_) => None,
-            Err(refusal) => Some(refusal.to_report()),
-        }
+        r.err().map(|refusal| refusal.to_report())
     }
 
     pub fn refused(layer: Layer, number: u8, place: usize) -> Option<Report> {
@@ -17,5 +16,13 @@ pub mod tests {
             number,
             place,
         })
+    }
+
+    pub fn in_network(number: u8, place: usize) -> Option<Report> {
+        refused(Layer::Network, number, place)
+    }
+
+    pub fn opened(sites: u8, links: &[Link<Metres>]) -> Result<Network<Metres>, Fail> {
+        Network::open(sites, links).map_err(|_| Fail::new("the network is refused"))
     }
 }

@@ -2,32 +2,21 @@
 
 #[cfg(test)]
 pub mod tests {
+    use crate::drawn::pair;
     use weights::{Crossings, Metres, Pair, WeightKind};
 
     #[test]
     fn first_side_decides(rt: HostRuntime) {
-        let near = Pair {
-            first: Crossings(0),
-            second: Metres(900),
-        };
-        let far = Pair {
-            first: Crossings(1),
-            second: Metres(10),
-        };
+        let near = pair(0, 900);
+        let far = pair(1, 10);
         assert!(rt; near.at_most(&far), "(0, 900) comes before (1, 10)");
         assert!(rt; !far.at_most(&near));
     }
 
     #[test]
     fn second_side_decides_where_the_first_are_equal(rt: HostRuntime) {
-        let short = Pair {
-            first: Crossings(3),
-            second: Metres(10),
-        };
-        let long = Pair {
-            first: Crossings(3),
-            second: Metres(11),
-        };
+        let short = pair(3, 10);
+        let long = pair(3, 11);
         assert!(rt; short.at_most(&long));
         assert!(rt; short.at_most(&short));
         assert!(rt; !long.at_most(&short));
@@ -35,10 +24,7 @@ pub mod tests {
 
     #[test]
     fn sixty_three_are_held_and_no_more(rt: HostRuntime) {
-        let most = Pair {
-            first: Crossings(65535),
-            second: Metres(4294967295),
-        };
+        let most = pair(65535, 4294967295);
         let mut total = <Pair<Crossings, Metres>>::nothing();
         for _ in 0..64 {
             <Pair<Crossings, Metres>>::add(&mut total, most);

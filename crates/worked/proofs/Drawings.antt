@@ -3,6 +3,7 @@ use Rattle.std.proofs.Common.{◌≡◌, ℕ, zero, suc, ◌<◌, Bool, true, no
 use mathlib.Core.List.{map-map}
 use lib.ListN.{length-map}
 use Rattle.std.proofs.lemmas.Bool.{and_parts, ltb-true}
+use Rattle.std.specs.List.{list_all}
 use Rattle.forests.specs.Graphs.{Graph, Fits}
 use Rattle.weights.specs.Weighings.{by_metres}
 use Rattle.weights.specs.declared.metres.Metres.{Metres}
@@ -48,8 +49,7 @@ holds_drawn sites links P h n d = subst₂ P (graph_drawn sites links n d) (metr
 
 -- both ends of every link are below the number of sites
 abbrev pub inside : ℕ → List Drawn → Bool
-inside sites [] = true
-inside sites (link ∷ links) = (ltb link.0 sites && ltb link.1 sites) && inside sites links
+inside sites = list_all (λ link. ltb link.0 sites && ltb link.1 sites)
 
 module _ (sites : ℕ) where
   ends_inside : (links : List Drawn) → inside sites links ≡ true → (e : ℕ) → e < length links

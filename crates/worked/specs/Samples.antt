@@ -7,6 +7,8 @@ use Rattle.walks.specs.Calls.{next, pour, seek}
 use Rattle.walks.specs.Turns.{done, refused, poured}
 use Rattle.worked.specs.Brought.{Exchanged}
 use Rattle.worked.specs.Drawn.{Drawn}
+use Rattle.worked.specs.declared.opened.Example.{Example}
+use Rattle.worked.specs.declared.opened.Example.TheVariants.{OneSite, TwoSites, Sample, Triangle, Twins, Rivals}
 
 -- The sample network of four sites.
 abbrev pub sample : List Drawn
@@ -25,6 +27,23 @@ twins = (0, 1, 7) ∷ (0, 1, 7) ∷ []
 
 abbrev pub rivals : List Drawn
 rivals = (0, 1, 7) ∷ (0, 1, 8) ∷ []
+
+-- How many sites and which links the network of an example has.
+abbrev pub sites_in : Example → ℕ
+sites_in OneSite = 1
+sites_in TwoSites = 2
+sites_in Sample = 4
+sites_in Triangle = 3
+sites_in Twins = 2
+sites_in Rivals = 2
+
+abbrev pub links_in : Example → List Drawn
+links_in OneSite = []
+links_in TwoSites = []
+links_in Sample = sample
+links_in Triangle = triangle
+links_in Twins = twins
+links_in Rivals = rivals
 
 -- Calls with their answers, each next passed the same list. On one site: the empty row, and then none follows.
 abbrev pub one_site_calls : List ℕ → List Exchanged

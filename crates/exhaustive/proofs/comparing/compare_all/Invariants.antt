@@ -1,5 +1,5 @@
-use Rattle.std.proofs.Common.{◌*◌, ◌≤◌}
+use Rattle.std.proofs.Common.{◌+◌, ◌≤◌}
 use Rattle.exhaustive.proofs.comparing.compare_all.Given as goal
 
 abbrev pub invariant-loop-sites : goal.invariant-loop-sites
-invariant-loop-sites l = l.tally.different ≤ l.tally.networks * 12
+invariant-loop-sites l = l.sites ≤ l.tally.networks + 1
