@@ -7,11 +7,9 @@ use Rattle.reports.proofs.lines.answer.Goals as goal
 pub returns-in-Metres : goal.returns-in-Metres
 returns-in-Metres c =
     let sheet = c.args.sheet.now in
-    answers_as Metres (kind_of sheet) (sym c.in-Metres.ensures) sheet c.load_as.result c.told.result c.load_as.ensures c.told.ensures
+    answers_as Metres (kind_of sheet) (sym c.in-Metres.ensures) sheet _ _ c.load_as.ensures c.told.ensures
 
 pub returns-in-CrossingsMetres : goal.returns-in-CrossingsMetres
 returns-in-CrossingsMetres c =
     let sheet = c.args.sheet.now in
-    let loaded = c.load_as-in-CrossingsMetres in
-    let told = c.told-in-CrossingsMetres in
-    answers_as CrossingsMetres (kind_of sheet) (sym c.in-CrossingsMetres.ensures) sheet loaded.result told.result loaded.ensures told.ensures
+    answers_as CrossingsMetres (kind_of sheet) (sym c.in-CrossingsMetres.ensures) sheet _ _ c.load_as-in-CrossingsMetres.ensures c.told-in-CrossingsMetres.ensures

@@ -8,16 +8,12 @@ use Rattle.reports.proofs.reporting.report.Goals as goal
 pub returns-in-Metres : goal.returns-in-Metres
 returns-in-Metres g c =
     let sheet = c.args.sheet.now in
-    let walked = through c.load_as.result c.map.result _ (λ n w p. search rules) c.map.ensures.cases in
-    reports_as g.S.Sink.took c.args.out.now c.report_loaded.new.out Metres (kind_of sheet) (sym c.in-Metres.ensures) sheet c.load_as.result c.map.result
-    c.load_as.ensures walked (c.report_loaded.ensures metres_text (λ t. refl))
+    reports_as g.S.Sink.took c.args.out.now c.report_loaded.new.out Metres (kind_of sheet) (sym c.in-Metres.ensures) sheet _ _ c.load_as.ensures
+    (through _ _ _ (λ n w p. search rules) c.map.ensures.cases) (c.report_loaded.ensures metres_text (λ t. refl))
 
 pub returns-in-CrossingsMetres : goal.returns-in-CrossingsMetres
 returns-in-CrossingsMetres g c =
     let sheet = c.args.sheet.now in
-    let loaded = c.load_as-in-CrossingsMetres in
-    let begun = c.map-in-CrossingsMetres in
     let reported = c.report_loaded-in-CrossingsMetres in
-    let walked = through loaded.result begun.result _ (λ n w p. search rules) begun.ensures.cases in
-    reports_as g.S.Sink.took c.args.out.now reported.new.out CrossingsMetres (kind_of sheet) (sym c.in-CrossingsMetres.ensures) sheet loaded.result begun.result
-    loaded.ensures walked (reported.ensures crossings_text (λ t. refl))
+    reports_as g.S.Sink.took c.args.out.now reported.new.out CrossingsMetres (kind_of sheet) (sym c.in-CrossingsMetres.ensures) sheet _ _ c.load_as-in-CrossingsMetres.ensures
+    (through _ _ _ (λ n w p. search rules) c.map-in-CrossingsMetres.ensures.cases) (reported.ensures crossings_text (λ t. refl))
