@@ -3,7 +3,7 @@
 
 #![tactic(auto)]
 
-use reports::answer;
+use reports::{Sheets, answer, line};
 use std::io;
 use std::io::{Read, Write};
 
@@ -11,17 +11,10 @@ fn main(rt: HostRuntime) -> io::Result<()> {
     let mut input = Vec::new(rt.alloc());
     rt.stdin().read_to_end(&mut input)?;
     let mut out = rt.stdout();
-    let mut rest = input.as_slice();
-    while let [high, low, behind @ ..] = rest {
-        let length = u16::from_be_bytes([*high, *low]) as usize;
-        if behind.len() < length {
-            break;
-        }
-        let (sheet, after) = behind.split_at(length);
-        let line = answer(sheet).line();
+    for sheet in Sheets(input.as_slice()) {
+        let line = line(&answer(sheet));
         out.write_all(line.as_slice())?;
         out.write_all(b"\n")?;
-        rest = after;
     }
     Ok(())
 }

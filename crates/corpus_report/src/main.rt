@@ -3,7 +3,7 @@
 
 #![tactic(auto)]
 
-use reports::{Printer, report};
+use reports::{Printer, Sheets, report};
 use std::io;
 use std::io::Read;
 
@@ -11,15 +11,8 @@ fn main(rt: HostRuntime) -> io::Result<()> {
     let mut input = Vec::new(rt.alloc());
     rt.stdin().read_to_end(&mut input)?;
     let mut out = Printer::new(rt.stdout());
-    let mut rest = input.as_slice();
-    while let [high, low, behind @ ..] = rest {
-        let length = u16::from_be_bytes([*high, *low]) as usize;
-        if behind.len() < length {
-            break;
-        }
-        let (sheet, after) = behind.split_at(length);
+    for sheet in Sheets(input.as_slice()) {
         report(sheet, &mut out);
-        rest = after;
     }
     out.finish()
 }

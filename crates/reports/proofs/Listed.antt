@@ -35,12 +35,6 @@ module _ {K : Type 0} (kind : Weighing K) (before : Walk K) {S : Type 0} (took :
     so_far = λ L full. ([], refl, (L, refl), none, nothing refl refl);
   }
 
-  -- All is listed.
-  pub gone_all : (now : Walk K) (here : S) (limit count : ℕ) → Gone kind before now took start here count → count ≡ limit → ListsRows kind before now took start here limit count letter_l
-  gone_all now here limit count gone all L full =
-      let (rows, long, next, place, put) = gone.so_far L full in
-      (rows, long, next, place, put, at_limit all refl)
-
   module _ (now next : Walk K) (here here' : S) (limit count taken letter : ℕ) (text : List ℕ)
       (gone : Gone kind before now took start here count) (fills : FillsPlaces kind now next (limit - count) taken letter text)
       (stays : Stays kind now next) (put : took here text here') where

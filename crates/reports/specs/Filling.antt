@@ -1,4 +1,4 @@
--- How a listing goes on: rows are poured as lines into places, which are put out and used again. L is the full list,
+-- How a listing goes on: rows are poured as lines into places, which are put out, again and again. L is the full list,
 -- and J says that the sites are joined.
 use Rattle.std.specs.Prelude.{◌≡◌, ℕ, ◌<◌, Bool, true, false, ◌⊎◌, List, length, Some, None, Option}
 use Rattle.forests.specs.Graphs.{SitesJoined}
@@ -39,6 +39,10 @@ module _ {K : Type 0} (kind : Weighing K) (before after : Walk K) where
   SaysFollows false = OfFullList (λ L J. ((J → ⊥) ⊎ IsLast L (place_of before)) × (place_of after ≡ place_of before))
 
   module _ {S : Type 0} (took : S → List ℕ → S → Type 0) (start end : S) where
+    -- The places were put out.
+    abbrev pub PutsRows : (limit count letter : ℕ) → Type 0
+    PutsRows limit count letter = (text : List ℕ) × FillsPlaces limit count letter text × took start text end
+
     -- The lines of the first so many rows were put out.
     abbrev pub ListsRows : (limit count letter : ℕ) → Type 0
     ListsRows limit count letter = OfFullList (λ L J.

@@ -28,13 +28,6 @@ pub data Printed (L : List (List ℕ)) (J : Type 0) (rows : List (List ℕ)) (le
 abbrev pub last_line : ℕ → List ℕ → ℕ → List ℕ
 last_line count each letter = codes "trees " ++ (decimal count ++ (codes " each " ++ (each ++ (codes " ended " ++ (letter ∷ 10 ∷ [])))))
 
--- a total is printed as its metres, or as crossings/metres
-abbrev pub metres_text : ℕ → List ℕ
-metres_text metres = decimal metres
-
-abbrev pub crossings_text : ℕ × ℕ → List ℕ
-crossings_text total = decimal total.0 ++ (47 ∷ decimal total.1)
-
 -- What is printed of a network, where totals are printed as `shown` says: sites and links, the lines of the rows, and
 -- the last line with their number, the total of each (a dash where there is none) and the ending.
 pub record Report {K : Type 0} (kind : Weighing K) (shown : kind.scale.Amount → List ℕ) (n : Network K) (text : List ℕ) : Type 0 where

@@ -1,24 +1,22 @@
 -- What is printed of a sheet.
-use Rattle.std.specs.Prelude.{◌≡◌, ℕ, false, List, [], ◌∷◌, ◌++◌, MatchOption}
-use Rattle.weights.specs.Weighings.{by_metres, by_crossings, paired}
+use Rattle.std.specs.Prelude.{◌≡◌, ℕ, false, List, [], ◌∷◌, ◌++◌, Ok, Err, Result, MatchOption}
 use Rattle.networks.specs.Networks.{sites_of, links_of, closed_in}
 use Rattle.networks.specs.Opening.{open_rules}
-use Rattle.networks.specs.Refusals.{first_of, line_of}
+use Rattle.networks.specs.Refusals.{first_of, report_of, line_of}
 use Rattle.networks.specs.declared.links.Link.{Link}
 use Rattle.networks.specs.declared.networks.Network.{Network}
+use Rattle.networks.specs.declared.refusals.Refusal.{Refusal}
 use Rattle.networks.specs.declared.refusals.Report.{Report as Told}
 use Rattle.sheets.specs.Layout.{sheet_of}
-use Rattle.sheets.specs.Numbers.{be16, be32}
 use Rattle.sheets.specs.Reading.{read_rules}
 use Rattle.weights.specs.Scales.{Weighing}
-use Rattle.weights.specs.declared.crossings.Crossings.{Crossings}
-use Rattle.weights.specs.declared.metres.Metres.{Metres}
-use Rattle.weights.specs.declared.pairs.Pair.{Pair}
+use Rattle.walks.specs.Walks.{network_of}
+use Rattle.walks.specs.declared.walks.Walk.{Walk}
 use Rattle.reports.specs.Answers.{kind_of}
-use Rattle.reports.specs.Listing.{Report, metres_text, crossings_text}
+use Rattle.reports.specs.Kinds.{form_of}
+use Rattle.reports.specs.Listing.{Report}
 use Rattle.reports.specs.Sinks.{PutOut}
 use Rattle.reports.specs.declared.answers.Kind.{Kind}
-use Rattle.reports.specs.declared.answers.Kind.TheVariants.{Metres as metres, CrossingsMetres as crossings}
 
 -- the single line of a refusal
 abbrev pub RefusedText : List ℕ → Told → Type 0
@@ -29,6 +27,16 @@ pub record NetworkOf {K : Type 0} (sites : ℕ) (links : List (Link K)) (n : Net
   pub has_sites : sites_of n ≡ sites
   pub has_links : links_of n ≡ links
   pub none_closed : (e : ℕ) → closed_in n e ≡ false
+
+-- what was loaded, where its network is walked through
+abbrev pub walked_through : {K : Type 0} → Result (Walk K) Refusal → Result (Network K) Refusal
+walked_through (Ok walk) = Ok (network_of walk)
+walked_through (Err e) = Err e
+
+-- what is printed of what loading gave
+abbrev pub PrintsLoaded : {K : Type 0} (kind : Weighing K) (shown : kind.scale.Amount → List ℕ) → Result (Network K) Refusal → List ℕ → Type 0
+PrintsLoaded kind shown (Ok n) text = Report kind shown n text
+PrintsLoaded kind shown (Err e) text = RefusedText text (report_of e)
 
 module _ (letter width : ℕ) {K : Type 0} (bytes : K → List ℕ) (kind : Weighing K) (shown : kind.scale.Amount → List ℕ) where
   -- the sheet is that of some links between so many sites, and the text is the report of their network, or the refusal
@@ -43,11 +51,8 @@ module _ (letter width : ℕ) {K : Type 0} (bytes : K → List ℕ) (kind : Weig
   abbrev pub ReportsKind : List ℕ → List ℕ → Type 0
   ReportsKind sheet text = MatchOption (first_of (read_rules letter width sheet 512)) (Opens sheet text) (RefusedText text)
 
--- the meaning of the two kinds' weights, and their bytes
 abbrev pub ReportsAs : Kind → List ℕ → List ℕ → Type 0
-ReportsAs metres sheet text = ReportsKind 87 4 (λ (w : Metres). be32 w.0) by_metres metres_text sheet text
-ReportsAs crossings sheet text =
-    ReportsKind 80 6 (λ (w : Pair Crossings Metres). be16 w.first.0 ++ be32 w.second.0) (paired by_crossings by_metres) crossings_text sheet text
+ReportsAs kind sheet text = let form = form_of kind in ReportsKind form.letter form.width form.bytes form.weighing form.shown sheet text
 
 -- the report of a sheet, read as the kind that its byte 5 says
 abbrev pub Reports : List ℕ → List ℕ → Type 0
@@ -57,6 +62,15 @@ Reports sheet text = ReportsAs (kind_of sheet) sheet text
 abbrev pub PutsReport : {S : Type 0} → (S → List ℕ → S → Type 0) → Kind → List ℕ → S → S → Type 0
 PutsReport took kind sheet start end = (text : List ℕ) × ReportsAs kind sheet text × PutOut took start text end
 
--- the report of a network was put out, and nothing else
-abbrev pub PutsNetwork : {K S : Type 0} (kind : Weighing K) (shown : kind.scale.Amount → List ℕ) → (S → List ℕ → S → Type 0) → Network K → S → S → Type 0
-PutsNetwork kind shown took n start end = (text : List ℕ) × Report kind shown n text × PutOut took start text end
+module _ {K : Type 0} (kind : Weighing K) {T : Type 0} (text : T → List ℕ) (sum : T → kind.scale.Amount) {S : Type 0} (took : S → List ℕ → S → Type 0) where
+  -- however amounts are printed, if the text of a total is that of its sum: this was put out, and nothing else
+  abbrev pub PutsShown : ((kind.scale.Amount → List ℕ) → List ℕ → Type 0) → S → S → Type 0
+  PutsShown Prints start end = (shown : kind.scale.Amount → List ℕ) → ((t : T) → text t ≡ shown (sum t)) → (all : List ℕ) × Prints shown all × PutOut took start all end
+
+  -- the report of a network
+  abbrev pub PutsNetwork : Network K → S → S → Type 0
+  PutsNetwork n = PutsShown (λ shown all. Report kind shown n all)
+
+  -- the report of the network that was loaded and is walked through, or the line of the refusal
+  abbrev pub PutsLoaded : Result (Walk K) Refusal → S → S → Type 0
+  PutsLoaded r = PutsShown (λ shown all. PrintsLoaded kind shown (walked_through r) all)

@@ -1,6 +1,7 @@
 //! The kinds of sheet that are told apart, and the answer to a sheet.
 
 use networks::Refusal;
+use sheets::Counts;
 
 /// How a sheet is read.
 #[derive(Clone, Copy)]
@@ -11,9 +12,5 @@ pub enum Kind {
     CrossingsMetres,
 }
 
-/// The answer to a sheet: its sites and links, or why it is refused.
-#[derive(Clone, Copy)]
-pub enum Answer {
-    Sound { sites: u8, links: usize },
-    Refused(Refusal),
-}
+/// The answer to a sheet: how many sites and links it has, or why it is refused.
+pub type Answer = Result<Counts, Refusal>;

@@ -5,12 +5,15 @@
 pub mod answers;
 pub mod lines;
 mod listing;
+mod loading;
+pub mod many;
 pub mod reporting;
+mod shown;
 pub mod sinks;
 mod totals;
-mod types;
 
 pub use answers::{Answer, Kind};
-pub use lines::{answer, kind_of};
+pub use lines::{answer, kind_of, line};
+pub use many::{MOST, Sheets};
 pub use reporting::report;
 pub use sinks::{Printer, Sink};

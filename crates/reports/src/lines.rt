@@ -1,33 +1,25 @@
 //! Answering a sheet, and the answer as a line.
 
-ghost use Rattle.std.specs.Prelude.{◌≡◌, ℕ, slice_index};
+ghost use Rattle.std.specs.Prelude.{◌≡◌, ℕ};
 ghost use Rattle.networks.specs.Refusals.{line_of};
 ghost use Rattle.texts.specs.Lines.{line_bytes};
-ghost use Rattle.reports.specs.Answers.{kind_of, Answers, AnswersAs, line_of_answer, sound_line, told_of};
-ghost use Rattle.reports.specs.declared.answers.Kind.TheVariants.{Metres as metres, CrossingsMetres as crossings};
+ghost use Rattle.reports.specs.Answers.{kind_of, told_of, Answers, line_of_answer, sound_line};
 
 use crate::answers::{Answer, Kind};
-use networks::{Link, Network, Refusal, Report};
-use sheets::{SheetKind, load};
+use crate::loading::{counts, load_as};
+use networks::{Network, Refusal, Report};
+use sheets::Counts;
 use texts::Line;
-use weights::{Crossings, Metres, Pair};
+use weights::{Crossings, Metres, Pair, WeightKind};
 
 /// The kind that a sheet is read as: P where its byte 5 says so, and W otherwise.
 pub fn kind_of(sheet: &[u8]) -> Kind
     ensures { result ≡ kind_of sheet.now }
 {
-    if kind_byte(sheet) == b'P' {
-        Kind::CrossingsMetres
-    } else {
-        Kind::Metres
+    match sheet.get(5) {
+        Some(b'P') => Kind::CrossingsMetres,
+        _ => Kind::Metres,
     }
-}
-
-/// Byte 5 of a sheet, or 0 where it has none.
-fn kind_byte(sheet: &[u8]) -> u8
-    ensures { result ≡ slice_index sheet.now 5 }
-{
-    if sheet.len() > 5 { sheet[5] } else { 0 }
 }
 
 /// Loads the sheet as a network of the kind that it is read as, and answers its sites and links, or the refusal.
@@ -35,71 +27,38 @@ pub fn answer(sheet: &[u8]) -> Answer
     ensures { Answers sheet.now result }
 {
     match kind_of(sheet) {
-        Kind::Metres => answer_metres(sheet),
-        Kind::CrossingsMetres => answer_crossings(sheet),
+        Kind::Metres => told(load_as::<Metres>(sheet)),
+        Kind::CrossingsMetres => told(load_as::<Pair<Crossings, Metres>>(sheet)),
     }
-}
-
-fn answer_metres(sheet: &[u8]) -> Answer
-    ensures { AnswersAs metres sheet.now result }
-{
-    let blank = Link {
-        from: 0,
-        to: 0,
-        weight: Metres(0),
-    };
-    let mut links = [blank; 512];
-    told(load(sheet, &mut links))
-}
-
-fn answer_crossings(sheet: &[u8]) -> Answer
-    ensures { AnswersAs crossings sheet.now result }
-{
-    let blank = Link {
-        from: 0,
-        to: 0,
-        weight: Pair {
-            first: Crossings(0),
-            second: Metres(0),
-        },
-    };
-    let mut links = [blank; 512];
-    told(load(sheet, &mut links))
 }
 
 /// What is answered where loading gave this.
-fn told<K: SheetKind>(loaded: Result<Network<K>, Refusal>) -> Answer
+fn told<K: WeightKind>(loaded: Result<Network<K>, Refusal>) -> Answer
     ensures { result ≡ told_of loaded }
 {
-    match loaded {
-        Ok(network) => Answer::Sound {
-            sites: network.sites(),
-            links: network.links().len(),
-        },
-        Err(refusal) => Answer::Refused(refusal),
+    let network = loaded?;
+    Ok(counts(&network))
+}
+
+/// The line that is printed of an answer, without its end.
+pub fn line(answer: &Answer) -> Line
+    ensures { line_bytes result ≡ line_of_answer answer.now }
+{
+    match answer {
+        Ok(counts) => sound_line(*counts),
+        Err(refusal) => refused_line(refusal.to_report()),
     }
 }
 
-impl Answer {
-    /// The line that is printed of the answer, without its end.
-    pub fn line(&self) -> Line
-        ensures { line_bytes result ≡ line_of_answer self.now }
-    {
-        match *self {
-            Answer::Sound { sites, links } => sound_line(sites, links),
-            Answer::Refused(refusal) => refused_line(refusal.to_report()),
-        }
-    }
-}
-
-fn sound_line(sites: u8, links: usize) -> Line
-    ensures { line_bytes result ≡ sound_line sites links }
+// The lines are put together by hand: `write!` promises its text only where it succeeds, and no contract says that it does.
+fn sound_line(counts: Counts) -> Line
+    ensures { line_bytes result ≡ sound_line counts.sites counts.links }
 {
     let mut line = Line::new();
     line.put(b"sites ");
-    line.put_number(sites as u64);
+    line.put_number(counts.sites as u64);
     line.put(b" links ");
-    line.put_number(links as u64);
+    line.put_number(counts.links as u64);
     line
 }
 

@@ -1,35 +1,36 @@
 //! Listing the rows of a walk, a line for each.
 
-ghost use Rattle.std.specs.Prelude.{◌≡◌, ◌<◌, ◌≤◌, length, take, None};
+ghost use Rattle.std.specs.Prelude.{◌≡◌, ◌<◌, ◌≤◌, None};
 ghost use Rattle.walks.specs.Acts.{Stays};
 ghost use Rattle.walks.specs.Walks.{network_of, place_of, Begun};
-ghost use Rattle.reports.specs.Filling.{FillsPlaces, SaysFollows, ListsRows, ListsPrinted};
+ghost use Rattle.reports.specs.Filling.{PutsRows, SaysFollows, ListsRows, ListsPrinted};
 
 use crate::sinks::Sink;
 use receivers::TextWriter;
 use walks::Walk;
 use weights::WeightKind;
 
-/// Pours rows as lines into the places, which have room for any line. Answers how many, the letter of the reason for
-/// which it ended, and how many places were used.
-fn fill<K: WeightKind>(walk: &mut Walk<K>, places: &mut [u8], limit: u32) -> (u32, char, usize)
-    requires begun { Begun K.WeightKind.weighing walk.old }
-    requires room { 378 ≤ length places.old }
-    ensures fills { FillsPlaces K.WeightKind.weighing walk.old walk.new limit result.0 result.1 (take result.2 places.new) }
+// How many rows and why they ended is told as `Walk::pour` tells it, by a number and a letter.
+
+/// Puts the lines of the rows that come next out, as many as 4,096 places hold and up to so many. Answers how many rows
+/// there were, and the letter of the reason for which it ended.
+fn put_rows<K: WeightKind, S: Sink>(walk: &mut Walk<K>, out: &mut S, limit: u32) -> (u32, char)
+    requires { Begun K.WeightKind.weighing walk.old }
+    ensures puts { PutsRows K.WeightKind.weighing walk.old walk.new S.Sink.took out.old out.new limit result.0 result.1 }
     ensures stays { Stays K.WeightKind.weighing walk.old walk.new }
     ensures within { result.0 ≤ limit }
     ensures some { result.1 ≡ 70 → 0 < result.0 }
-    ensures used { result.2 ≤ length places.new }
-    ensures same { length places.new ≡ length places.old }
 {
-    let mut writer = TextWriter::new(places);
-    let (count, letter) = walk.pour(&mut writer, limit);
+    let mut places = [0; 4096];
+    let mut writer = TextWriter::new(&mut places);
+    let poured = walk.pour(&mut writer, limit);
     let used = writer.used();
-    (count, letter, used)
+    out.put(&places[..used]);
+    poured
 }
 
-/// Puts the lines of the first rows out, up to so many. When the places for lines are full they are put out and used
-/// again. Answers how many rows there were, and the letter of the reason for which it ended.
+/// Puts the lines of the first rows out, up to so many. Answers how many rows there were, and the letter of the reason
+/// for which it ended.
 fn list_rows<K: WeightKind, S: Sink>(walk: &mut Walk<K>, out: &mut S, limit: u32) -> (u32, char)
     requires begun { Begun K.WeightKind.weighing walk.old }
     requires before { place_of walk.old ≡ None }
@@ -37,17 +38,14 @@ fn list_rows<K: WeightKind, S: Sink>(walk: &mut Walk<K>, out: &mut S, limit: u32
     ensures within { result.0 ≤ limit }
     ensures stays { Stays K.WeightKind.weighing walk.old walk.new }
 {
-    let mut places = [0; 4096];
     let mut count = 0;
-    while count < limit {
-        let (taken, letter, used) = fill(walk, &mut places, limit - count);
-        out.put(&places[0..used]);
+    loop {
+        let (taken, letter) = put_rows(walk, out, limit - count);
         count += taken;
         if letter != 'F' {
             return (count, letter);
         }
     }
-    (count, 'L')
 }
 
 /// Whether a row follows; the walk then moves to it.

@@ -1,9 +1,10 @@
 //! What a report is put out to.
 
-ghost use Rattle.std.specs.Prelude.{◌≡◌, ℕ, true, false, List, is_ok};
+ghost use Rattle.std.specs.Prelude.{◌≡◌, ℕ, true, false, List, decimal, is_ok};
 
 use std::io;
 use std::io::{Stdout, Write};
+use texts::Digits;
 
 /// What the parts of a report are put out to, one behind the other.
 pub trait Sink {
@@ -52,4 +53,12 @@ impl Sink for Printer {
             self.fault = self.out.write_all(part);
         }
     }
+}
+
+/// Puts a number out in decimal.
+pub(crate) fn put_number<S: Sink>(out: &mut S, n: u64)
+    ensures { S.Sink.took out.old (decimal n) out.new }
+{
+    let digits = Digits::of(n);
+    out.put(digits.as_slice());
 }

@@ -2,12 +2,9 @@
 
 #![tactic(auto)]
 
-use reports::{Printer, report};
+use reports::{MOST, Printer, report};
 use std::io;
 use std::io::Read;
-
-/// One byte more than the longest sheet has, so that a longer one is seen to be too long.
-const MOST: u64 = 4106;
 
 fn main(rt: HostRuntime) -> io::Result<()> {
     let mut sheet = Vec::new(rt.alloc());
