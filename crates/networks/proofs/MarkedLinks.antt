@@ -1,5 +1,6 @@
 -- The links of a plan, made from the records of a network link by link.
-use Rattle.std.proofs.Common.{◌≡◌, ℕ, ◌<◌, ◌≤◌, Bool, false, cond, not, ltb, List, map, length, sym, refl, ap, ◌∙◌, ⊎_elim, arith}
+use Rattle.std.proofs.Common.{◌≡◌, ℕ, ◌<◌, ◌≤◌, Bool, not, ltb, List, map, length, get_or, sym, ap, ◌∙◌, ⊎_elim, arith}
+use Rattle.std.specs.List.{count_by}
 use Rattle.std.proofs.lemmas.List.{length-map, get_or_past}
 use Rattle.std.proofs.lemmas.Bool.{cases_lt, cond-true, cond-false, lt-ltb, le-ltb, and_left}
 use Rattle.weights.specs.Scales.{Scale}
@@ -9,11 +10,23 @@ use Rattle.networks.specs.Closures.{closed_at}
 use Rattle.networks.specs.Links.{from_of, to_of, weight_of, lighter_than, open_below}
 use Rattle.networks.specs.declared.closed.Closed.{Closed}
 use Rattle.networks.specs.declared.links.Link.{Link}
+use Rattle.networks.proofs.CountedLists.{counted_places}
 use Rattle.networks.proofs.Filled.{FilledTo}
+use Rattle.networks.proofs.Weights.{weight_at}
 
 pub same_link : {from from' to to' mark mark' : ℕ} {usable usable' : Bool} → from ≡ from' → to ≡ to' → mark ≡ mark' → usable ≡ usable'
     → ◌≡◌ {A = PlanLink} (record { from = from; to = to; mark = mark; usable = usable }) (record { from = from'; to = to'; mark = mark'; usable = usable' })
 same_link a b c d = λ i. record { from = a i; to = b i; mark = c i; usable = d i }
+
+module _ (s : Scale) {W : Type 0} (amount : W → s.Amount) (links : List (Link W)) where
+  -- how many links are lighter than one that was read
+  pub lighter : (link : Link W) (e : ℕ) → link ≡ get_or links e link → e < length links
+      → count_by (λ (x : Link W). not (s.le (amount link.weight) (amount x.weight))) links ≡ lighter_than s (weight_of s amount links) (length links) e
+  lighter link e is l =
+      let w = weight_of s amount links in
+      counted_places (λ (x : Link W). not (s.le (amount link.weight) (amount x.weight))) (λ x. not (s.le (w e) (w x))) link links
+      (λ x k. ap (λ a. not (s.le a (w x))) (weight_at s amount links e link l ∙ ap (λ (y : Link W). amount y.weight) (sym is))
+      ∙ ap (λ a. not (s.le (amount link.weight) a)) (weight_at s amount links x link k))
 
 module _ (s : Scale) {W : Type 0} (amount : W → s.Amount) (links : List (Link W)) (closed : Closed) where
   -- link e with its mark
