@@ -2,7 +2,7 @@
 use Rattle.std.proofs.Common.{◌≡◌, ℕ, ◌<◌, ◌≤◌, Bool, not, ltb, List, map, length, get_or, sym, ap, ◌∙◌, ⊎_elim, arith}
 use Rattle.std.specs.List.{count_by}
 use Rattle.std.proofs.lemmas.List.{length-map, get_or_past}
-use Rattle.std.proofs.lemmas.Bool.{cases_lt, cond-true, cond-false, lt-ltb, le-ltb, and_left}
+use Rattle.std.proofs.lemmas.Bool.{cases_lt, le-ltb, and_left}
 use Rattle.weights.specs.Scales.{Scale}
 use Rattle.cheapest.specs.Places.{no_link, link_at}
 use Rattle.cheapest.specs.declared.plan.PlanLink.{PlanLink}
@@ -11,7 +11,7 @@ use Rattle.networks.specs.Links.{from_of, to_of, weight_of, lighter_than, open_b
 use Rattle.networks.specs.declared.closed.Closed.{Closed}
 use Rattle.networks.specs.declared.links.Link.{Link}
 use Rattle.networks.proofs.CountedLists.{counted_places}
-use Rattle.networks.proofs.Filled.{FilledTo}
+use Rattle.networks.proofs.Filled.{FilledTo, filled_here, filled_past}
 use Rattle.networks.proofs.Weights.{weight_at}
 
 pub same_link : {from from' to to' mark mark' : ℕ} {usable usable' : Bool} → from ≡ from' → to ≡ to' → mark ≡ mark' → usable ≡ usable'
@@ -41,10 +41,10 @@ module _ (s : Scale) {W : Type 0} (amount : W → s.Amount) (links : List (Link 
   -- every link has its place
   module _ (places : List PlanLink) {i : ℕ} (all : FilledTo no_link marked places i) (ends : i ≡ length links) where
     within : (e : ℕ) → e < length links → link_at places e ≡ marked e
-    within e l = all e ∙ cond-true (ltb e i) (marked e) no_link (lt-ltb e i (omega arith))
+    within e l = filled_here no_link marked places i e all (omega arith)
 
     past : (e : ℕ) → length links ≤ e → link_at places e ≡ no_link
-    past e l = all e ∙ cond-false (ltb e i) (marked e) no_link (le-ltb e i (omega arith))
+    past e l = filled_past no_link marked places i e all (omega arith)
 
     pub marked_from : (e : ℕ) → (link_at places e).from ≡ from_of links e
     marked_from e =
