@@ -1,9 +1,7 @@
 -- Links that every cheapest tree has. Some cheapest tree avoids a link if and only if the first row
 -- without it is a spanning tree's and has the first row's amounts at every position.
-use Rattle.std.proofs.Common.{◌≡◌, ℕ, ◌+◌, ◌<◌, ◌≤◌, Bool, true, false, not, ◌&&◌, eqb, List, map, length, get_or, set, sym, refl, ap, ◌∙◌, inl, inr, arith}
-use mathlib.Core.Path.{fun_ext}
-use Rattle.std.proofs.lemmas.List.{ext_get_or, length-map, get_or-map, get_or-set_same, get_or-set_other, get_or_past}
-use Rattle.std.proofs.lemmas.Bool.{cases_eq, eq-eqb, ne_eqb, and_right, not_from_true}
+use Rattle.std.proofs.Common.{◌≡◌, ℕ, ◌+◌, ◌<◌, Bool, true, false, ◌&&◌, eqb, map, length, get_or, sym, refl, ap, ◌∙◌, arith}
+use Rattle.std.proofs.lemmas.List.{ext_get_or, length-map, get_or-map}
 use Rattle.weights.specs.Scales.{Scale, Lawful, sum_of}
 use Rattle.weights.specs.Amounts.{numbers}
 use Rattle.forests.specs.Graphs.{Graph, Fits}

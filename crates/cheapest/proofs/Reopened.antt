@@ -1,6 +1,7 @@
 -- A plan with other links open: the ends, the marks and the ranking stay.
-use Rattle.std.proofs.Common.{◌≡◌, ℕ, ◌+◌, ◌<◌, ◌≤◌, Bool, true, false, not, ◌&&◌, eqb, List, length, get_or, set, sym, refl, ap, ◌∙◌, subst, inl, inr, arith, below_more}
+use Rattle.std.proofs.Common.{◌≡◌, ℕ, ◌+◌, ◌<◌, ◌≤◌, Bool, false, not, ◌&&◌, eqb, List, length, get_or, set, sym, refl, ap, ◌∙◌, subst, inl, inr, arith, below_more}
 use mathlib.Core.Path.{fun_ext}
+use Rattle.std.proofs.Math.Bool.{and-true}
 use Rattle.std.proofs.lemmas.List.{length-set, get_or-set_same, get_or-set_other, get_or_past}
 use Rattle.std.proofs.lemmas.Bool.{cases_eq, cases_lt, eq-eqb, ne_eqb, and_right, not_from_true}
 use Rattle.weights.specs.Amounts.{numbers}
@@ -91,10 +92,6 @@ module _ (links : List PlanLink) (usable : ℕ → Bool) where
 abbrev pub but : List PlanLink → ℕ → ℕ → Bool
 but links link e = (link_at links e).usable && not (eqb e link)
 
-and_true : (b : Bool) → (b && true) ≡ b
-and_true true = refl
-and_true false = refl
-
 closed_here : (links : List PlanLink) (link e : ℕ) → e ≡ link → but links link e ≡ false
 closed_here links link e h = and_right (link_at links e).usable (not (eqb e link)) (not_from_true (eqb e link) (eq-eqb e link h))
 
@@ -102,7 +99,7 @@ closed_here links link e h = and_right (link_at links e).usable (not (eqb e link
 as_it_was : (links : List PlanLink) (link e : ℕ) → (e ≡ link → ⊥) → link_at links e ≡ opened (link_at links e) (but links link e)
 as_it_was links link e ne =
     let l = link_at links e in
-    sym (ap (λ b. opened l (l.usable && not b)) (ne_eqb e link ne) ∙ ap (opened l) (and_true l.usable))
+    sym (ap (λ b. opened l (l.usable && not b)) (ne_eqb e link ne) ∙ ap (opened l) (and-true l.usable))
 
 pub one_closed : (links : List PlanLink) (link : ℕ) {links' : List PlanLink} → link < length links → links' ≡ set links link (opened (link_at links link) false)
     → Reopened links links' (but links link)

@@ -32,10 +32,5 @@ module _ {X : Type 0} (d : X) where
     pub filled_here : (xs : List X) (i e : ℕ) → FilledTo xs i → e < i → get_or xs e d ≡ f e
     filled_here xs i e all l = all e ∙ cond-true (ltb e i) (f e) d (lt-ltb e i l)
 
-    -- where the function has nothing more to say
-    pub filled_all : (xs : List X) (i : ℕ) → FilledTo xs i → ((e : ℕ) → i ≤ e → f e ≡ d) → (e : ℕ) → get_or xs e d ≡ f e
-    filled_all xs i all rest e =
-        ⊎_elim
-        (λ l. filled_here xs i e all l)
-        (λ m. all e ∙ cond-false (ltb e i) (f e) d (le-ltb e i m) ∙ sym (rest e m))
-        (cases_lt e i)
+    pub filled_past : (xs : List X) (i e : ℕ) → FilledTo xs i → i ≤ e → get_or xs e d ≡ d
+    filled_past xs i e all m = all e ∙ cond-false (ltb e i) (f e) d (le-ltb e i m)

@@ -2,6 +2,7 @@ pub mod Alike
 pub mod Asked
 pub mod Counted
 pub mod Counts
+pub mod CountedLists
 pub mod Faults
 pub mod FirstFaults
 pub mod Filled

@@ -1,7 +1,8 @@
 -- The links of a plan, made from the records of a network link by link.
-use Rattle.std.proofs.Common.{◌≡◌, ℕ, ◌<◌, ◌≤◌, Bool, false, cond, not, ltb, List, map, length, sym, refl, ap, ◌∙◌, ⊎_elim, arith}
+use Rattle.std.proofs.Common.{◌≡◌, ℕ, ◌<◌, ◌≤◌, Bool, not, ltb, List, map, length, get_or, sym, ap, ◌∙◌, ⊎_elim, arith}
+use Rattle.std.specs.List.{count_by}
 use Rattle.std.proofs.lemmas.List.{length-map, get_or_past}
-use Rattle.std.proofs.lemmas.Bool.{cases_lt, cond-true, cond-false, lt-ltb, le-ltb, and_left}
+use Rattle.std.proofs.lemmas.Bool.{cases_lt, le-ltb, and_left}
 use Rattle.weights.specs.Scales.{Weighing}
 use Rattle.cheapest.specs.Places.{no_link, link_at}
 use Rattle.cheapest.specs.declared.plan.PlanLink.{PlanLink}
@@ -9,11 +10,23 @@ use Rattle.networks.specs.Closures.{closed_at}
 use Rattle.networks.specs.Links.{from_of, to_of, weight_of, lighter_than, open_below}
 use Rattle.networks.specs.declared.closed.Closed.{Closed}
 use Rattle.networks.specs.declared.links.Link.{Link}
-use Rattle.networks.proofs.Filled.{FilledTo}
+use Rattle.networks.proofs.CountedLists.{counted_places}
+use Rattle.networks.proofs.Filled.{FilledTo, filled_here, filled_past}
+use Rattle.networks.proofs.Weights.{weight_at}
 
 pub same_link : {from from' to to' mark mark' : ℕ} {usable usable' : Bool} → from ≡ from' → to ≡ to' → mark ≡ mark' → usable ≡ usable'
     → ◌≡◌ {A = PlanLink} (record { from = from; to = to; mark = mark; usable = usable }) (record { from = from'; to = to'; mark = mark'; usable = usable' })
 same_link a b c d = λ i. record { from = a i; to = b i; mark = c i; usable = d i }
+
+module _ {W : Type 0} (kind : Weighing W) (links : List (Link W)) where
+  -- how many links are lighter than one that was read
+  pub lighter : (link : Link W) (e : ℕ) → link ≡ get_or links e link → e < length links
+      → count_by (λ (x : Link W). not (kind.scale.le (kind.amount link.weight) (kind.amount x.weight))) links ≡ lighter_than kind.scale (weight_of kind links) (length links) e
+  lighter link e is l =
+      let w = weight_of kind links in
+      counted_places (λ (x : Link W). not (kind.scale.le (kind.amount link.weight) (kind.amount x.weight))) (λ x. not (kind.scale.le (w e) (w x))) link links
+      (λ x k. ap (λ a. not (kind.scale.le a (w x))) (weight_at kind links e link l ∙ ap (λ (y : Link W). kind.amount y.weight) (sym is))
+      ∙ ap (λ a. not (kind.scale.le (kind.amount link.weight) a)) (weight_at kind links x link k))
 
 module _ {W : Type 0} (kind : Weighing W) (links : List (Link W)) (closed : Closed) where
   -- link e with its mark
@@ -28,10 +41,10 @@ module _ {W : Type 0} (kind : Weighing W) (links : List (Link W)) (closed : Clos
   -- every link has its place
   module _ (places : List PlanLink) {i : ℕ} (all : FilledTo no_link marked places i) (ends : i ≡ length links) where
     within : (e : ℕ) → e < length links → link_at places e ≡ marked e
-    within e l = all e ∙ cond-true (ltb e i) (marked e) no_link (lt-ltb e i (omega arith))
+    within e l = filled_here no_link marked places i e all (omega arith)
 
     past : (e : ℕ) → length links ≤ e → link_at places e ≡ no_link
-    past e l = all e ∙ cond-false (ltb e i) (marked e) no_link (le-ltb e i (omega arith))
+    past e l = filled_past no_link marked places i e all (omega arith)
 
     pub marked_from : (e : ℕ) → (link_at places e).from ≡ from_of links e
     marked_from e =

@@ -1,6 +1,6 @@
 //! The plain part of a network: its graph, with a mark on every link that stands for its weight.
 
-ghost use Rattle.std.specs.Prelude.{◌≡◌, ℕ, ◌<◌, ◌≤◌, false, length, slice_index, slice_index_or};
+ghost use Rattle.std.specs.Prelude.{◌≡◌, ℕ, ◌<◌, ◌≤◌, not, length, count_by};
 ghost use Rattle.weights.specs.Amounts.{numbers};
 ghost use Rattle.cheapest.specs.Places.{link_at};
 ghost use Rattle.cheapest.specs.Plans.{graph_of, mark_of};
@@ -18,17 +18,14 @@ use cheapest::plan::PlanLink;
 use weights::WeightKind;
 
 /// How many links have lower weight than this one.
-fn mark<K: WeightKind>(links: &[Link<K>], link: usize) -> usize
-    requires { link < length links.now }
+fn mark<K: WeightKind>(links: &[Link<K>], link: &Link<K>) -> usize
     ensures inside { result ≤ length links.now }
-    ensures counts { result ≡ lighter_than K.WeightKind.weighing.scale (weight_of K.WeightKind.weighing links.now) (length links.now) link }
+    ensures counts { result ≡ count_by (λ x. not (K.WeightKind.weighing.scale.le (K.WeightKind.weighing.amount link.now.weight) (K.WeightKind.weighing.amount x.weight))) links.now }
 {
-    let mut lighter = 0;
-    for x in 0..links.len() {
-        let level = links[link].weight.at_most(&links[x].weight);
-        lighter += !level as usize;
-    }
-    lighter
+    links
+        .iter()
+        .filter(|x| !link.weight.at_most(&x.weight))
+        .count()
 }
 
 /// The links with their marks, in the first of 512 places. Those that are open may be chosen.
@@ -51,7 +48,7 @@ fn marked_links<K: WeightKind>(links: &[Link<K>], closed: &Closed) -> [PlanLink;
         places[number] = PlanLink {
             from: link.from,
             to: link.to,
-            mark: mark(links, number) as u16,
+            mark: mark(links, link) as u16,
             usable: closed.is_open(number as u16),
         };
     }

@@ -12,9 +12,9 @@ offset_bounds-items-count c = let free = selected_free c.args.plan c.loop-number
 
 pub loop-number-preserved : goal.loop-number-preserved
 loop-number-preserved c = elim c.if-link.branch [
-      | then-link w ↦ selected_in c.args.plan c.loop-number.invariant c.loop-number-test.true w.if-link.true w.items-is w.count-is
-      | else-link w ↦ selected_out c.args.plan c.loop-number.invariant c.loop-number-test.true w.if-link.false w.items-is w.count-is
-    ]
+  | then-link w ↦ selected_in c.args.plan c.loop-number.invariant c.loop-number-test.true w.if-link.true w.items-is w.count-is
+  | else-link w ↦ selected_out c.args.plan c.loop-number.invariant c.loop-number-test.true w.if-link.false w.items-is w.count-is
+]
 
 pub invariant_of-result : goal.invariant_of-result
 invariant_of-result c = selected_owed c.args.plan c.loop-number.invariant (let e = c.loop-number.auto.number-index-end in let t = c.loop-number-test.false in omega arith)

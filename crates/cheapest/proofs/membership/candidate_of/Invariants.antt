@@ -1,4 +1,4 @@
-use Rattle.std.proofs.Common.{◌≡◌, ℕ, ◌<◌, get_or}
+use Rattle.std.proofs.Common.{◌≡◌, ℕ, ◌<◌}
 use Rattle.cheapest.proofs.membership.candidate_of.Given as goal
 use Rattle.cheapest.specs.Candidates.{number_of}
 

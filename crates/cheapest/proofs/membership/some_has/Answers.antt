@@ -1,4 +1,4 @@
-use Rattle.std.proofs.Common.{ℕ, Bool, [], ◌∷◌, get_or, Decides, sym, subst, arith, rules}
+use Rattle.std.proofs.Common.{ℕ, Bool, [], ◌∷◌, Decides, sym, subst, arith, rules}
 use Rattle.std.proofs.lemmas.Bool.{eq-eqb, ne_eqb}
 use Rattle.weights.specs.Amounts.{numbers}
 use Rattle.cheapest.specs.Classes.{InSome}

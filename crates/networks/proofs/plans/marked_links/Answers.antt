@@ -6,7 +6,7 @@ use Rattle.cheapest.specs.declared.plan.PlanLink.{PlanLink}
 use Rattle.networks.specs.Links.{open_below}
 use Rattle.networks.specs.declared.links.Link.{Link}
 use Rattle.networks.proofs.Filled.{filled_none, filled_more}
-use Rattle.networks.proofs.MarkedLinks.{same_link, marked, marked_from, marked_to, marked_mark, marked_usable}
+use Rattle.networks.proofs.MarkedLinks.{same_link, marked, lighter, marked_from, marked_to, marked_mark, marked_usable}
 use Rattle.networks.proofs.plans.marked_links.Goals as goal
 
 pub loop-number-init : goal.loop-number-init
@@ -29,7 +29,7 @@ loop-number-preserved g c =
       filled_more no_link (marked k.weighing links closed) c.loop-number.places e new (let p = c.requires in let w = c.loop-number.invariant.0 in omega arith)
           (same_link (ap (λ (x : Link g.row.K.Denot). x.from) c.index-links-number.is ∙ sym (get_or-map (λ x. x.from) links e link 0 t))
           (ap (λ (x : Link g.row.K.Denot). x.to) c.index-links-number.is ∙ sym (get_or-map (λ x. x.to) links e link 0 t))
-          c.mark.ensures.counts open_e)
+          (c.mark.ensures.counts ∙ lighter k.weighing links link e c.index-links-number.is t) open_e)
           c.loop-number.invariant.1,
     )
 
