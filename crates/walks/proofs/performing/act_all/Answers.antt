@@ -31,18 +31,12 @@ loop-turn-preserved g c =
       a.lender ∙ inv.3,
     )
 
-pub returns : goal.returns
-returns g c =
+pub returns-clause-promise : goal.returns-clause-promise
+returns-clause-promise g c =
     let k = g.K.WeightKind in
     let ρ = g.R.Receiver in
     let r = c.args.receiver.now in
-    let inv = c.loop-turn.invariant in
     let all : c.loop-turn.turn-index ≡ length c.args.turns.now = (let left = c.loop-turn-test.false in let most = c.loop-turn.auto.turn-index-end in omega arith) in
-    record {
-      promise = ran_all k.scale g.met.K.WeightKind.lawful k.amount c.args.walk.now (ρ.rule r) (ρ.held r) c.args.turns.now c.loop-turn.walk (ρ.held c.loop-turn.receiver) c.loop-turn.turns
-          c.requires.begun c.loop-turn.auto.turns
-          (subst (Ran k.scale k.amount c.args.walk.now c.loop-turn.walk (ρ.rule r) (ρ.held r) (ρ.held c.loop-turn.receiver) c.args.turns.now c.loop-turn.turns) all inv.0);
-      rule = inv.1;
-      spare = inv.2;
-      lender = inv.3;
-    }
+    ran_all k.scale g.met.K.WeightKind.lawful k.amount c.args.walk.now (ρ.rule r) (ρ.held r) c.args.turns.now c.loop-turn.walk (ρ.held c.loop-turn.receiver) c.loop-turn.turns
+    c.requires.begun c.loop-turn.auto.turns
+    (subst (Ran k.scale k.amount c.args.walk.now c.loop-turn.walk (ρ.rule r) (ρ.held r) (ρ.held c.loop-turn.receiver) c.args.turns.now c.loop-turn.turns) all c.loop-turn.invariant.0)
