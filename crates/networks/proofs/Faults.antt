@@ -1,12 +1,10 @@
 -- The rules of opening, link by link.
-use Rattle.std.proofs.Common.{◌≡◌, ℕ, ◌+◌, ◌<◌, ◌≤◌, true, false, cond, not, ◌&&◌, eqb, ltb, ◌≢◌, ◌⊎◌, List, [], ◌∷◌, length, get_or, drop, Some, None, sym, refl, ap, ◌∙◌, ⊎_elim}
-use Rattle.std.proofs.lemmas.List.{at_drop_more, at_drop_all}
-use Rattle.std.proofs.lemmas.Bool.{cond-true, cond-false, lt-ltb, le-ltb, eq-eqb, ne_eqb, and_from, and_left, and_right, not_from_true, not_from_false, not-false, and_parts}
+use Rattle.std.proofs.Common.{◌≡◌, ℕ, ◌+◌, true, not, ◌&&◌, eqb, ltb, List, [], ◌∷◌, None, refl}
+use Rattle.std.proofs.lemmas.Bool.{and_from, not_from_false, not-false, and_parts}
 use Rattle.networks.specs.Links.{sound}
 use Rattle.networks.specs.Opening.{link_rules}
-use Rattle.networks.specs.Refusals.{at, first_of}
+use Rattle.networks.specs.Refusals.{first_of}
 use Rattle.networks.specs.declared.links.Link.{Link}
-use Rattle.networks.specs.declared.refusals.Layer.TheVariants.{Network}
 use Rattle.networks.proofs.Rules.{passed}
 
 -- links that no rule refuses are sound

@@ -1,12 +1,8 @@
 -- The rules of a price, entry by entry.
-use Rattle.std.proofs.Common.{◌≡◌, ℕ, ◌+◌, ◌<◌, ◌≤◌, Bool, true, false, cond, not, ◌||◌, ltb, leb, ◌⊎◌, List, map, length, get_or, take, drop, Some, None, ap, ◌∙◌, ⊎_elim}
-use Rattle.std.proofs.lemmas.List.{at_drop_more, at_drop_all, take_more, map_push}
-use Rattle.std.proofs.lemmas.Bool.{cond-true, cond-false, or_left, or_right, or_from, le-leb, lt-leb, lt-ltb, le-ltb, not_from_true, not_from_false}
+use Rattle.std.proofs.Common.{◌≡◌, ℕ, ◌+◌, ◌<◌, List, map, length, get_or, take, ap, ◌∙◌}
+use Rattle.std.proofs.lemmas.List.{take_more, map_push}
 use Rattle.weights.specs.Scales.{Scale, Lawful, sum_of}
 use Rattle.weights.proofs.Sums.{sum_push}
-use Rattle.networks.specs.Refusals.{at, first_of}
-use Rattle.networks.specs.Pricing.{price_rules}
-use Rattle.networks.specs.declared.refusals.Layer.TheVariants.{Network}
 
 module _ (s : Scale) (laws : Lawful s) (w : ℕ → s.Amount) where
   -- the sum of a row's front, one entry more

@@ -1,5 +1,5 @@
 -- Lists of rules.
-use Rattle.std.proofs.Common.{◌≡◌, ℕ, Bool, true, false, cond, ◌⊎◌, Some, None, Option, refl, inl, inr, arith}
+use Rattle.std.proofs.Common.{◌≡◌, Bool, true, false, cond, ◌⊎◌, Some, None, Option, refl, inl, inr}
 use Rattle.networks.specs.declared.refusals.Report.{Report}
 
 -- where no rule applies, neither the first does nor one of the others

@@ -21,7 +21,7 @@ impl<K: WeightKind> Network<K> {
         ensures links { IfOk result (λ n. links_of n ≡ links.now) }
         ensures opens { IfOk result (λ n. (e : ℕ) → closed_in n e ≡ false) }
     {
-        if sites < 1 || sites > 64 {
+        if !(1..=64).contains(&sites) {
             return Err(Refusal::SiteCount);
         }
         if links.len() > 512 {
@@ -49,8 +49,7 @@ impl<K: WeightKind> Network<K> {
         ensures few { length result.now ≤ 512 }
         ensures len { length result.now ≡ self.now.count }
     {
-        let places = &self.links[..];
-        &places[0..self.count]
+        &self.links[..self.count]
     }
 }
 

@@ -1,5 +1,5 @@
 -- Lists that are cut in two: where a longer list may be cut, and that equal fronts leave equal rests.
-use Rattle.std.proofs.Common.{◌≡◌, ℕ, ◌<◌, ◌⊎◌, List, [], ◌∷◌, ◌++◌, length, sym, refl, subst, inl, inr, arith}
+use Rattle.std.proofs.Common.{◌≡◌, ◌<◌, ◌⊎◌, List, [], ◌∷◌, ◌++◌, length, sym, refl, subst, inl, inr, arith}
 use Rattle.forests.specs.Lists.{In, Different}
 use Rattle.forests.proofs.Members.{in_right}
 

@@ -9,7 +9,7 @@ use Rattle.cheapest.specs.Ranks.{rank}
 use Rattle.cheapest.specs.Rows.{Earlier, Listing, Next, NoneAfter}
 use Rattle.cheapest.specs.Trees.{Cheapest, FullList}
 use Rattle.cheapest.proofs.Orders.{earlier_asym}
-use Rattle.cheapest.proofs.Listings.{split_at, listed_next, listed_last, none_listed, next_listed, first_listed, listed_first, none_empty}
+use Rattle.cheapest.proofs.Listings.{split_at, none_listed, next_listed, first_listed, none_empty}
 use Rattle.walks.specs.Places.{NextMembers, Comes, IsLast}
 
 ordered_once : (key : ℕ → ℕ) (xs : List (List ℕ)) → Ordered (Earlier key) xs → Different xs

@@ -1,6 +1,6 @@
 -- One place, one taking rule and the same held leave one answer to every call: two events in which the same
 -- is asked are equal.
-use Rattle.std.proofs.Common.{◌≡◌, ℕ, ◌<◌, ◌≤◌, true, false, List, [], ◌∷◌, length, is_some, Option, sym, ap, ◌∙◌, subst, arith}
+use Rattle.std.proofs.Common.{◌≡◌, ℕ, ◌<◌, ◌≤◌, true, List, [], ◌∷◌, length, is_some, Option, sym, ◌∙◌, subst, arith}
 use Rattle.forests.specs.Lists.{Different}
 use Rattle.networks.specs.declared.refusals.Report.{Report}
 use Rattle.walks.specs.Places.{NextMembers, last_of}
@@ -9,7 +9,7 @@ use Rattle.walks.specs.Taking.{AllTaken}
 use Rattle.walks.specs.Events.{Event, gives, refuses, pours, finds, misses}
 use Rattle.walks.specs.Answering.{Gives, RefusedFor, short_list, not_joined, no_row_follows, EndsFor, at_limit, no_tree, no_more, not_taken, Pours, Answered}
 use Rattle.walks.specs.Steps.{InOrder}
-use Rattle.walks.specs.Calls.{Asked, next, pour, seek, call_of}
+use Rattle.walks.specs.Calls.{call_of}
 use Rattle.walks.proofs.Members.{next_front, next_rest, none_of_empty, next_same, next_longer, comes_same, not_last}
 use Rattle.walks.proofs.Offered.{taken_rest}
 

@@ -1,5 +1,6 @@
 -- Single calls as events.
-use Rattle.std.proofs.Common.{◌≡◌, ℕ, zero, suc, List, [], ◌∷◌, ◌++◌, length, take, Some, None, Ok, Err, Option, Result, MatchResult, sym, refl, ap, ◌∙◌, arith}
+use Rattle.std.proofs.Common.{◌≡◌, ℕ, List, ◌++◌, length, take, Some, None, Ok, Err, Option, Result, MatchResult, sym, refl, ap, ◌∙◌}
+use Rattle.std.proofs.Math.Seq.{take-append_seam}
 use Rattle.networks.specs.Refusals.{refusal_of}
 use Rattle.networks.specs.declared.refusals.Refusal.{Refusal}
 use Rattle.networks.specs.declared.refusals.Report.{Report}
@@ -13,9 +14,7 @@ use Rattle.walks.specs.Steps.{Step}
 use Rattle.walks.specs.Turns.{Heard, poured, heard_as, heard_from, heard_of, left_by}
 
 pub take_front : (xs ys : List ℕ) (n : ℕ) → length xs ≡ n → take n (xs ++ ys) ≡ xs
-take_front [] ys n e = ap (λ (k : ℕ). take k ys) (sym e)
-take_front (x ∷ xs) ys zero e = absurd (omega (arith, e))
-take_front (x ∷ xs) ys (suc n) e = ap (λ (zs : List ℕ). x ∷ zs) (take_front xs ys n (omega (arith, e)))
+take_front xs ys n e = ap (λ (k : ℕ). take k (xs ++ ys)) (sym e) ∙ take-append_seam xs ys
 
 -- what is heard of a call that replies nothing but that it was done
 pub heard_done : (r : Result (Unit {0}) Refusal) (a : Result Reply Refusal) → MatchResult r (λ _. a ≡ Ok Done) (λ e. a ≡ Err e) → heard_from (Some a) ≡ heard_as (refusal_of r)
@@ -40,11 +39,6 @@ module _ (L : List (List ℕ)) (size : ℕ) (J : Type 0) (rule : Rule) (here : O
       (pours limit d.0 letter, refl, refl, ap (λ n. poured n letter) (sym d.1), record { in_order = d.2; answered = d.3; moves = d.4; holding = d.5 })
 
   -- equal things asked, left and heard
-  pub asked_as : {ask ask' left : Asked} {hear : Heard} {here' : Option (List ℕ)} {held' : List ℕ} → ask ≡ ask' → EventOf ask' left hear here' held' → EventOf ask left hear here' held'
-  asked_as same (e, a, l, h, s) = (e, same ∙ a, l, h, s)
-
-  pub left_as : {ask left left' : Asked} {hear : Heard} {here' : Option (List ℕ)} {held' : List ℕ} → left ≡ left' → EventOf ask left' hear here' held' → EventOf ask left hear here' held'
-  left_as same (e, a, l, h, s) = (e, a, same ∙ l, h, s)
-
-  pub heard_alike : {ask left : Asked} {hear hear' : Heard} {here' : Option (List ℕ)} {held' : List ℕ} → hear ≡ hear' → EventOf ask left hear' here' held' → EventOf ask left hear here' held'
-  heard_alike same (e, a, l, h, s) = (e, a, l, same ∙ h, s)
+  pub event_as : {ask ask' left left' : Asked} {hear hear' : Heard} {here' : Option (List ℕ)} {held' : List ℕ} → ask ≡ ask' → left ≡ left' → hear ≡ hear'
+      → EventOf ask' left' hear' here' held' → EventOf ask left hear here' held'
+  event_as a l h (e, asks, leaves, hears, step) = (e, a ∙ asks, l ∙ leaves, h ∙ hears, step)

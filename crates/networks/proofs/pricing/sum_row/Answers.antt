@@ -1,6 +1,4 @@
-use Rattle.std.proofs.Common.{ℕ, ◌+◌, ◌<◌, map, get_or, sym, refl, ap, ◌∙◌, arith}
-use Rattle.std.proofs.lemmas.List.{take_all}
-use Rattle.weights.specs.Scales.{sum_of}
+use Rattle.std.proofs.Common.{ℕ, ◌+◌, ◌<◌, get_or, sym, refl, ap, ◌∙◌, arith}
 use Rattle.networks.specs.Links.{weight_of}
 use Rattle.networks.proofs.Prices.{sum_more}
 use Rattle.networks.proofs.Weights.{weight_at}

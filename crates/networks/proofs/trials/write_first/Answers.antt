@@ -20,3 +20,13 @@ returns-clause-joined c =
     let p = c.args.plan in
     let f = first_found p c.new-rows.result c.advance.new.self c.new-rows.ensures.plan c.new-rows.ensures.before (c.if-not-advance.ensures.moves refl) in
     ((λ _. first_joins (graph_of p) numbers (mark_of p) (row_of c.advance.new.self) f), (λ _. refl))
+
+pub returns-clause-writes : goal.returns-clause-writes
+returns-clause-writes c = record {
+  writes = λ _. (
+    row_of c.advance.new.self,
+    first_found c.args.plan c.new-rows.result c.advance.new.self c.new-rows.ensures.plan c.new-rows.ensures.before (c.if-not-advance.ensures.moves refl),
+    rw (c.copy_from_slice.ensures.after, c.row-row.ensures),
+  );
+  leaves = λ none. absurd (none refl);
+}

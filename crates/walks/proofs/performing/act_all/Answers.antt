@@ -28,16 +28,12 @@ loop-turn-preserved g c =
       serves_then inv.1 a.serves,
     )
 
-pub returns : goal.returns
-returns g c =
+pub returns-clause-promise : goal.returns-clause-promise
+returns-clause-promise g c =
     let k = g.K.WeightKind in
     let ρ = g.R.Receiver in
     let r = c.args.receiver.now in
-    let inv = c.loop-turn.invariant in
     let all : c.loop-turn.turn-index ≡ length c.args.turns.now = (let left = c.loop-turn-test.false in let most = c.loop-turn.auto.turn-index-end in omega arith) in
-    record {
-      promise = ran_all k.weighing g.met.K.WeightKind.lawful c.args.walk.now (ρ.rule r) (ρ.held r) c.args.turns.now c.loop-turn.walk (ρ.held c.loop-turn.receiver) c.loop-turn.turns
-          c.requires.begun c.loop-turn.auto.turns
-          (subst (Ran k.weighing c.args.walk.now c.loop-turn.walk (ρ.rule r) (ρ.held r) (ρ.held c.loop-turn.receiver) c.args.turns.now c.loop-turn.turns) all inv.0);
-      serves = inv.1;
-    }
+    ran_all k.weighing g.met.K.WeightKind.lawful c.args.walk.now (ρ.rule r) (ρ.held r) c.args.turns.now c.loop-turn.walk (ρ.held c.loop-turn.receiver) c.loop-turn.turns
+    c.requires.begun c.loop-turn.auto.turns
+    (subst (Ran k.weighing c.args.walk.now c.loop-turn.walk (ρ.rule r) (ρ.held r) (ρ.held c.loop-turn.receiver) c.args.turns.now c.loop-turn.turns) all c.loop-turn.invariant.0)

@@ -3,47 +3,34 @@ use Rattle.cheapest.specs.Positions.{CheapestIn, plan_of, row_of}
 use Rattle.cheapest.specs.declared.plan.Plan.{Plan}
 use Rattle.cheapest.specs.Kept.{kept_row}
 use Rattle.receivers.specs.Rules.{takes, held_after}
-use Rattle.receivers.proofs.Serving.{serves_same}
 use Rattle.walks.proofs.Offered.{declined_same}
 use Rattle.walks.proofs.Moves.{place_back, on_cheapest, place_on, same_place, steps_come, stops_last}
 use Rattle.walks.proofs.pouring.offer.Goals as goal
 
-pub returns-then-not-advance : goal.returns-then-not-advance
-returns-then-not-advance g c =
+pub returns-then-not-advance-clause-does : goal.returns-then-not-advance-clause-does
+returns-then-not-advance-clause-does g c L full =
     let rows = c.args.rows.now in
     let e = c.if-not-advance.ensures in
     let joined = c.if-not-joined.ensures.joined.0 refl in
-    record {
-      plan = e.plan;
-      does = λ L full. (joined, stops_last rows L full joined (e.ends refl), same_place rows c.advance.new.self (e.stays refl), refl);
-      serves = serves_same _;
-    }
+    (joined, stops_last rows L full joined (e.ends refl), same_place rows c.advance.new.self (e.stays refl), refl)
 
-pub returns-then-take : goal.returns-then-take
-returns-then-take g c =
-    let rows = c.args.rows.now in
+pub returns-then-take-clause-does : goal.returns-then-take-clause-does
+returns-then-take-clause-does g c L full =
     let after = c.advance.new.self in
-    let e = c.if-not-advance.ensures in
-    let steps = e.moves refl in
-    let joined = c.if-not-joined.ensures.joined.0 refl in
+    let steps = c.if-not-advance.ensures.moves refl in
     let t = c.if-take.ensures in
     let row = c.row.ensures in
     let k = g.R.Receiver in
-    let r = c.args.receiver.now in
-    record {
-      plan = e.plan;
-      does = λ L full. (
-        joined,
-        (
-          row_of after,
-          steps_come rows L full after steps,
-          sym (t.answers ∙ ap (takes (k.rule r) (k.held r)) row),
-          place_on after steps.on,
-          t.held ∙ ap (held_after (k.rule r) (k.held r)) row,
-        ),
-      );
-      serves = t.serves;
-    }
+    let r = c.args.receiver.now in (
+      c.if-not-joined.ensures.joined.0 refl,
+      (
+        row_of after,
+        steps_come c.args.rows.now L full after steps,
+        sym (t.answers ∙ ap (takes (k.rule r) (k.held r)) row),
+        place_on after steps.on,
+        t.held ∙ ap (held_after (k.rule r) (k.held r)) row,
+      ),
+    )
 
 pub go_back-requires : goal.go_back-requires
 go_back-requires g c =
@@ -52,26 +39,18 @@ go_back-requires g c =
     let e = c.if-not-advance.ensures in
     λ on. subst (λ (p : Plan). CheapestIn p (kept_row c.kept-kept.result)) (sym e.plan) (subst (CheapestIn (plan_of rows)) (sym kept.row) (on_cheapest rows (sym kept.on ∙ on)))
 
-pub returns : goal.returns
-returns g c =
+pub returns-clause-does : goal.returns-clause-does
+returns-clause-does g c L full =
     let rows = c.args.rows.now in
     let after = c.go_back.new.rows in
     let back = c.go_back.ensures in
     let t = c.if-take.ensures in
-    let e = c.if-not-advance.ensures in
-    let steps = e.moves refl in
-    let joined = c.if-not-joined.ensures.joined.0 refl in
     let row = c.row.ensures in
     let k = g.R.Receiver in
     let r = c.args.receiver.now in
-    let declines = sym (t.answers ∙ ap (takes (k.rule r) (k.held r)) row) in
-    record {
-      plan = back.plan ∙ e.plan;
-      does = λ L full. (
-        joined,
-        (row_of c.advance.new.self, steps_come rows L full c.advance.new.self steps, declines),
-        place_back rows after c.kept-kept.result c.kept-kept.ensures.on c.kept-kept.ensures.row back.on back.row,
-        t.held ∙ ap (held_after (k.rule r) (k.held r)) row ∙ declined_same (k.rule r) (k.held r) (row_of c.advance.new.self) declines,
-      );
-      serves = t.serves;
-    }
+    let declines = sym (t.answers ∙ ap (takes (k.rule r) (k.held r)) row) in (
+      c.if-not-joined.ensures.joined.0 refl,
+      (row_of c.advance.new.self, steps_come rows L full c.advance.new.self (c.if-not-advance.ensures.moves refl), declines),
+      place_back rows after c.kept-kept.result c.kept-kept.ensures.on c.kept-kept.ensures.row back.on back.row,
+      t.held ∙ ap (held_after (k.rule r) (k.held r)) row ∙ declined_same (k.rule r) (k.held r) (row_of c.advance.new.self) declines,
+    )

@@ -22,30 +22,19 @@ loop-count-preserved g c =
       serves_then i.1 o.serves,
     )
 
-pub returns-in-Err : goal.returns-in-Err
-returns-in-Err g c =
+pub returns-in-Err-clause-does : goal.returns-in-Err-clause-does
+returns-in-Err-clause-does g c =
     let k = g.R.Receiver in
     let i = c.loop-count.invariant in
-    let o = c.offer.ensures in
     let r = c.args.receiver.now in
     let now = c.loop-count.receiver in
-    let next = c.offer.new.receiver in
-    record {
-      plan = o.plan ∙ i.0.plan;
-      does = taken_ends c.args.rows.now c.loop-count.rows c.offer.new.rows (k.rule r) (k.rule now) (k.held r) (k.held now) (k.held next)
-          c.loop-count.count c.offer.result i.0 i.1.rule o.does c.in-Err.ending c.args.limit c.in-Err.is c.loop-count-test.true;
-      serves = serves_then i.1 o.serves;
-    }
+    taken_ends c.args.rows.now c.loop-count.rows c.offer.new.rows (k.rule r) (k.rule now) (k.held r) (k.held now) (k.held c.offer.new.receiver)
+    c.loop-count.count c.offer.result i.0 i.1.rule c.offer.ensures.does c.in-Err.ending c.args.limit c.in-Err.is c.loop-count-test.true
 
-pub returns : goal.returns
-returns g c =
+pub returns-clause-does : goal.returns-clause-does
+returns-clause-does g c =
     let k = g.R.Receiver in
     let r = c.args.receiver.now in
-    let i = c.loop-count.invariant in
     let all : c.loop-count.count ≡ c.args.limit = (let most = c.loop-count.auto.count-end in let done = c.loop-count-test.false in omega arith) in
-    record {
-      plan = i.0.plan;
-      does = taken_all c.args.rows.now c.loop-count.rows (k.rule r) (k.held r) (k.held c.loop-count.receiver) c.args.limit
-          (subst (Taken c.args.rows.now c.loop-count.rows (k.rule r) (k.held r) (k.held c.loop-count.receiver)) all i.0);
-      serves = i.1;
-    }
+    taken_all c.args.rows.now c.loop-count.rows (k.rule r) (k.held r) (k.held c.loop-count.receiver) c.args.limit
+    (subst (Taken c.args.rows.now c.loop-count.rows (k.rule r) (k.held r) (k.held c.loop-count.receiver)) all c.loop-count.invariant.0)

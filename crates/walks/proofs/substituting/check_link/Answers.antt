@@ -1,9 +1,7 @@
-use Rattle.std.proofs.Common.{◌≡◌, List, true, None, Some, Option, Decides, inl, inr, sym, refl, ap, ◌∙◌, subst}
+use Rattle.std.proofs.Common.{◌≡◌, true, Decides, inl, inr, sym, refl, ◌∙◌}
 use Rattle.std.proofs.lemmas.Bool.{false≢true}
 use Rattle.forests.specs.Lists.{In}
 use Rattle.cheapest.specs.Positions.{is_on, row_of}
-use Rattle.walks.specs.Walks.{row_at}
-use Rattle.walks.specs.Substitutes.{AskedFor}
 use Rattle.walks.proofs.Moves.{place_on}
 use Rattle.walks.proofs.Members.{decides_in}
 use Rattle.walks.proofs.substituting.check_link.Goals as goal

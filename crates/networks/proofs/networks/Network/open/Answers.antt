@@ -1,6 +1,6 @@
-use Rattle.std.proofs.Common.{Bool, false, List, get_or, replicate, length, ap, ◌∙◌, ⊎_elim, arith}
+use Rattle.std.proofs.Common.{Bool, false, List, get_or, replicate, ap, ◌∙◌, ⊎_elim}
 use Rattle.std.proofs.lemmas.Bool.{cases_lt}
-use Rattle.std.proofs.lemmas.List.{get_or-replicate, get_or_past, length-replicate}
+use Rattle.std.proofs.lemmas.List.{get_or-replicate, get_or_past}
 use Rattle.networks.proofs.networks.Network.open.Goals as goal
 
 pub returns-clause-opens : goal.returns-clause-opens

@@ -1,4 +1,4 @@
-use Rattle.std.proofs.Common.{◌≡◌, ℕ, Decides, sym, refl, ap, ◌∙◌, subst, arith}
+use Rattle.std.proofs.Common.{◌≡◌, ℕ, Decides, sym, ap, ◌∙◌, subst}
 use Rattle.forests.specs.Graphs.{Graph, SitesJoined}
 use Rattle.networks.specs.Links.{open_below}
 use Rattle.networks.specs.Networks.{network_graph, weights_of}
