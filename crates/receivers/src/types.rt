@@ -1,6 +1,9 @@
-//! The tally with its count records, and the line of a row.
+//! The tally with its count records, and how long the rows are that a receiver takes.
 
 ghost use Rattle.std.specs.Prelude.{◌≡◌, ℕ, ◌≤◌, map, length, slice_index};
+
+/// A row of more entries is not taken.
+pub(crate) const MOST_ENTRIES: usize = 63;
 
 /// The count record of one link number.
 #[derive(Clone, Copy)]
@@ -19,14 +22,4 @@ pub struct Tally {
     ghost all: { length links ≡ 512 },
     ghost counted: { (k : ℕ) → slice_index (map (λ c. c.times) links) k ≤ rows },
     ghost past: { (k : ℕ) → slice_index (map (λ c. c.last) links) k ≤ rows },
-}
-
-/// The line of a row of at most 63 entries while it is put together.
-#[derive(Clone, Copy)]
-pub(crate) struct RowLine {
-    /// The bytes stand at the front; the places after them hold nothing of meaning.
-    pub(crate) places: [u8; 384],
-    /// How many of the places hold a byte of the line.
-    pub(crate) len: usize,
-    ghost room: { len ≤ 384 },
 }

@@ -1,7 +1,7 @@
 use Rattle.std.proofs.Common.{◌≡◌, ℕ, List, [], ◌++◌, length, sym, refl, ◌∙◌, subst, rules}
 use Rattle.std.proofs.lemmas.List.{take-append-drop}
 use Rattle.receivers.specs.Writing.{writing}
-use Rattle.receivers.specs.Writers.{written, unwritten}
+use Rattle.receivers.specs.Places.{held_in, spare_in}
 use Rattle.walks.specs.Acts.{PourActs}
 use Rattle.reports.proofs.Poured.{poured_fills, poured_within, poured_some, front_held, front_within}
 use Rattle.reports.proofs.listing.fill.Goals as goal
@@ -20,16 +20,16 @@ returns g c =
     let count = c.pour-count.result.0 in
     let letter = c.pour-count.result.1 in
     let same : w.cells.ghost_name ≡ c.new-writer.result.cells.ghost_name = cc poured.serves.lender in
-    let is : w.cells.now ≡ written w ++ unwritten w = sym (take-append-drop w.used w.cells.now) in
+    let is : w.cells.now ≡ held_in w ++ spare_in w = sym (take-append-drop w.used w.cells.now) in
     let named = sym (same ∙ new.lender) in
-    let acts : PourActs k.scale k.amount before after (writing room) [] limit count letter (written w) =
-    subst (λ (n : ℕ). PourActs k.scale k.amount before after (writing n) [] limit count letter (written w)) new.places
-    (subst (λ (held : List ℕ). PourActs k.scale k.amount before after (writing (length c.new-writer.result.cells.now)) held limit count letter (written w)) new.holds poured.acts) in
+    let acts : PourActs k.scale k.amount before after (writing room) [] limit count letter (held_in w) =
+    subst (λ (n : ℕ). PourActs k.scale k.amount before after (writing n) [] limit count letter (held_in w)) new.places
+    (subst (λ (held : List ℕ). PourActs k.scale k.amount before after (writing (length c.new-writer.result.cells.now)) held limit count letter (held_in w)) new.holds poured.acts) in
     record {
-      fills = poured_fills k.scale laws k.amount before after room limit count letter (written w) _ acts c.requires.begun (front_held _ (written w) (unwritten w) c.used-used.result (let back : _ ≡ w.cells.now = search rules in back ∙ is) c.used-used.ensures);
+      fills = poured_fills k.scale laws k.amount before after room limit count letter (held_in w) _ acts c.requires.begun (front_held _ (held_in w) (spare_in w) c.used-used.result (let back : _ ≡ w.cells.now = search rules in back ∙ is) c.used-used.ensures);
       stays = poured.stays;
-      within = poured_within k.scale laws k.amount before after room limit count letter (written w) (written w) acts c.requires.begun refl;
-      some = poured_some k.scale laws k.amount before after room limit count letter (written w) (written w) acts c.requires.begun refl c.requires.room;
-      used = front_within _ (written w) (unwritten w) c.used-used.result (let back : _ ≡ w.cells.now = search rules in back ∙ is) c.used-used.ensures;
+      within = poured_within k.scale laws k.amount before after room limit count letter (held_in w) (held_in w) acts c.requires.begun refl;
+      some = poured_some k.scale laws k.amount before after room limit count letter (held_in w) (held_in w) acts c.requires.begun refl c.requires.room;
+      used = front_within _ (held_in w) (spare_in w) c.used-used.result (let back : _ ≡ w.cells.now = search rules in back ∙ is) c.used-used.ensures;
       same = search rules;
     }

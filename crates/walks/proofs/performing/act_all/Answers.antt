@@ -10,7 +10,7 @@ loop-i-init g c =
     let k = g.K.WeightKind in
     let ρ = g.R.Receiver in
     let r = c.args.receiver.now in
-    (ran_none k.scale g.met.K.WeightKind.lawful k.amount c.args.walk.now (ρ.rule r) (ρ.held r) c.args.turns.now c.requires.begun c.requires.before, serves_same r, refl)
+    (ran_none k.scale g.met.K.WeightKind.lawful k.amount c.args.walk.now (ρ.rule r) (ρ.held r) c.args.turns.now c.requires.begun c.requires.before, serves_same _, refl)
 
 pub loop-i-preserved : goal.loop-i-preserved
 loop-i-preserved g c =

@@ -7,7 +7,7 @@ pub loop-count-init : goal.loop-count-init
 loop-count-init g c =
     let k = g.R.Receiver in
     let r = c.args.receiver.now in
-    (omega arith, taken_none c.args.rows.now (k.rule r) (k.held r), serves_same r)
+    (omega arith, taken_none c.args.rows.now (k.rule r) (k.held r), serves_same _)
 
 pub loop-count-preserved : goal.loop-count-preserved
 loop-count-preserved g c =
