@@ -1,8 +1,8 @@
-use Rattle.std.proofs.Common.{◌≡◌, ◌≤◌, [], ◌∷◌, ◌++◌, length, ap, ◌∙◌, arith}
+use Rattle.std.proofs.Common.{◌≡◌, [], ◌∷◌, ◌++◌, ap, ◌∙◌, arith}
 use Rattle.std.proofs.lemmas.Grind.{common_steps}
 use Rattle.std.proofs.lemmas.List.{length-append}
 use Rattle.texts.specs.Lines.{line_bytes}
-use Rattle.receivers.specs.Writing.{entries_of, line_of}
+use Rattle.receivers.specs.Writing.{entries_of}
 use Rattle.receivers.proofs.Lines.{line_short}
 use Rattle.receivers.proofs.row_line.row_line.Goals as goal
 

@@ -1,4 +1,4 @@
-use Rattle.std.proofs.Common.{◌≡◌, ℕ, List, vec_items, sym, refl, ap, ◌∙◌}
+use Rattle.std.proofs.Common.{◌≡◌, ℕ, List, vec_items, sym, ap, ◌∙◌}
 use Rattle.forests.specs.Graphs.{SitesJoined}
 use Rattle.networks.specs.Networks.{network_graph}
 use Rattle.networks.specs.Refusals.{refusal_of}

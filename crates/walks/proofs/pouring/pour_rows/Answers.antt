@@ -1,4 +1,4 @@
-use Rattle.std.proofs.Common.{refl, ◌∙◌, arith}
+use Rattle.std.proofs.Common.{◌∙◌, arith}
 use Rattle.receivers.proofs.Serving.{serves_same, serves_then}
 use Rattle.walks.proofs.Poured.{taken_none, taken_more, taken_ends, taken_all}
 use Rattle.walks.proofs.pouring.pour_rows.Goals as goal
