@@ -1,16 +1,14 @@
 -- The tally's taking rule. It holds the count of rows and then one count for each of the 512 link numbers.
-use Rattle.std.specs.Prelude.{ℕ, ◌+◌, Bool, true, false, cond, ◌&&◌, ◌||◌, List, [], ◌∷◌, map, length, Some, None, Option, ◌==◌, nat_le, nat_lt, slice_index}
-use Rattle.std.specs.List.{range_with_len}
+use Rattle.std.specs.Prelude.{ℕ, ◌+◌, Bool, cond, ◌&&◌, List, [], ◌∷◌, map, length, Some, None, Option, ◌==◌, nat_le, nat_lt, slice_index}
+use Rattle.std.specs.List.{list_all, list_any, range_with_len}
 
 -- whether the link is in the row
 abbrev pub in_row : ℕ → List ℕ → Bool
-in_row link [] = false
-in_row link (entry ∷ row) = entry == link || in_row link row
+in_row link row = list_any (λ entry. entry == link) row
 
 -- whether every entry is a link number
 abbrev pub all_links : List ℕ → Bool
-all_links [] = true
-all_links (entry ∷ row) = nat_lt entry 512 && all_links row
+all_links row = list_all (λ entry. nat_lt entry 512) row
 
 -- a link's count after the row: one more if the link is in it, however often
 abbrev pub count_after : List ℕ → List ℕ → ℕ → ℕ

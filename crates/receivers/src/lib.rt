@@ -9,7 +9,7 @@
 
 pub mod callers;
 pub mod keeper;
-mod places;
+pub mod places;
 pub mod receiver;
 mod row_line;
 pub mod tally;
@@ -17,6 +17,7 @@ pub mod types;
 pub mod writer;
 
 pub use keeper::Keeper;
+pub use places::Places;
 pub use receiver::Receiver;
 pub use types::{Count, Tally};
 pub use writer::{TextWriter, longest_line};

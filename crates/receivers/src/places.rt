@@ -1,22 +1,59 @@
-//! Places of a passed list that are used from the front.
+//! Places of a passed list that are used from the front: what keeper and text writer are.
 
-ghost use Rattle.std.specs.Prelude.{◌≡◌, ◌+◌, length, take, nat_le};
+ghost use Rattle.std.specs.Prelude.{◌≡◌, ◌+◌, ◌≤◌, [], ◌++◌, length, drop, nat_le};
 
-/// How many places are used, where at most so many are; a list has no more than its length.
-pub(crate) fn reach<T>(cells: &[T], used: usize) -> usize
-    ensures { result ≡ length (take used cells.now) }
-{
-    if used < cells.len() {
-        used
-    } else {
-        cells.len()
+/// A passed list, used from the front. The list is a field here, and not of a struct around this one, so that a caller knows what it
+/// holds once it is given back.
+#[derive(Drop)]
+pub struct Places<'a, T> {
+    cells: &'a mut [T],
+    /// How many of the cells are used.
+    used: usize,
+    ghost inside: { used ≤ length cells.now },
+}
+
+impl<'a, T> Places<'a, T> {
+    ghost use Rattle.receivers.specs.Places.{held_in, spare_in, room_in};
+
+    /// The places of this list, of which none is used.
+    pub fn new(cells: &'a mut [T]) -> Places<'a, T>
+        ensures holds { held_in result ≡ [] }
+        ensures unused { spare_in result ≡ cells.old }
+        ensures places { room_in result ≡ length cells.old }
+        ensures lender { result.cells.ghost_name ≡ cells.entry.ghost_name }
+    {
+        Places { cells, used: 0 }
+    }
+
+    /// How many are used.
+    pub fn used(&self) -> usize
+        ensures { result ≡ length (held_in self.now) }
+    {
+        self.used
+    }
+
+    /// Whether there is room for so many more.
+    pub(crate) fn fits(&self, more: usize) -> bool
+        ensures { result ≡ nat_le (length (held_in self.now) + more) (room_in self.now) }
+    {
+        more <= self.cells.len() - self.used
     }
 }
 
-/// Whether so many more fit behind the places used.
-pub(crate) fn has_room<T>(cells: &[T], used: usize, more: usize) -> bool
-    ensures { result ≡ nat_le (length (take used cells.now) + more) (length cells.now) }
-{
-    let used = reach(cells, used);
-    more <= cells.len() - used
+impl<T: Copy> Places<'_, T> {
+    ghost use Rattle.receivers.specs.Places.{held_in, spare_in, room_in};
+
+    /// Writes the part behind what is held.
+    pub(crate) fn append(&mut self, part: &[T])
+        requires { length (held_in self.old) + length part.now ≤ room_in self.old }
+        ensures held { held_in self.new ≡ held_in self.old ++ part.now }
+        ensures spare { spare_in self.new ≡ drop (length part.now) (spare_in self.old) }
+        ensures room { room_in self.new ≡ room_in self.old }
+        ensures lender { self.new.cells.ghost_name ≡ self.old.cells.ghost_name }
+    {
+        let start = self.used;
+        let end = start + part.len();
+        self.cells[start..end].copy_from_slice(part);
+        self.used = end;
+    }
 }

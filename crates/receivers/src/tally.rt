@@ -6,28 +6,13 @@ ghost use Rattle.receivers.specs.Tallying.{all_links, countable, count_after, ro
 ghost use Rattle.receivers.specs.Tallies.{counts_of, lasts_of, once_more, tallied};
 
 use crate::receiver::Receiver;
-use crate::types::{Count, Tally};
+use crate::types::{Count, LINKS, MOST_ENTRIES, Tally};
 
 /// Whether every entry is a link number.
 fn links_only(row: &[u16]) -> bool
     ensures { result ≡ all_links row.now }
 {
-    for link in row {
-        if *link >= 512 {
-            return false;
-        }
-    }
-    true
-}
-
-/// The count records before any row.
-fn blank() -> [Count; 512]
-    ensures all { length result ≡ 512 }
-    ensures none { map (λ c. c.times) result ≡ replicate 512 0 }
-    ensures counted { (k : ℕ) → slice_index (map (λ c. c.times) result) k ≤ 0 }
-    ensures past { (k : ℕ) → slice_index (map (λ c. c.last) result) k ≤ 0 }
-{
-    [Count { times: 0, last: 0 }; 512]
+    row.iter().all(|link| (*link as usize) < LINKS)
 }
 
 /// The count record once the row of this number counts there, which it does once.
@@ -51,7 +36,7 @@ impl Tally {
     {
         Tally {
             rows: 0,
-            links: blank(),
+            links: [Count { times: 0, last: 0 }; LINKS],
         }
     }
 
@@ -63,21 +48,14 @@ impl Tally {
     }
 
     /// How many of them had this link; none had a number of 512 or more.
+    // The product's form: such a number is answered by 0, and not refused, since no row that was taken has it.
     pub fn times(&self, link: u16) -> u32
         ensures value { result ≡ times_in (tallied self.now) link }
         ensures few { result ≤ rows_in (tallied self.now) }
     {
-        self.count_at(link as usize)
-    }
-
-    /// The count at this place.
-    fn count_at(&self, link: usize) -> u32
-        ensures { result ≡ slice_index (counts_of self.now) link }
-    {
-        if link < 512 {
-            self.links[link].times
-        } else {
-            0
+        match self.links.get(link as usize) {
+            Some(count) => count.times,
+            None => 0,
         }
     }
 
@@ -85,7 +63,7 @@ impl Tally {
     fn counts(&self, row: &[u16]) -> bool
         ensures { result ≡ countable self.now.rows row.now }
     {
-        row.len() <= 63 && self.rows < 4294967295 && links_only(row)
+        row.len() <= MOST_ENTRIES && self.rows < u32::MAX && links_only(row)
     }
 
     /// Counts the link for the latest row, unless it was counted for it before.

@@ -1,7 +1,7 @@
 -- Rows offered to a receiver one after another.
-use Rattle.std.proofs.Common.{◌≡◌, ℕ, ◌-◌, false, List, [], ◌∷◌, ◌++◌, length, drop, is_some, Some, None, Option, unwrap_or, refl, ap, arith}
+use Rattle.std.proofs.Common.{◌≡◌, ℕ, false, List, [], ◌∷◌, ◌++◌, is_some, Some, None, Option, unwrap_or, refl}
 use Rattle.std.proofs.lemmas.Bool.{true≢false}
-use Rattle.receivers.specs.Rules.{Rule, takes, held_after, held_after_all, EndOf}
+use Rattle.receivers.specs.Rules.{Rule, takes, held_after, held_after_all}
 use Rattle.walks.specs.Taking.{Takes, AllTaken}
 
 none_same : (o : Option (List ℕ)) (held : List ℕ) → is_some o ≡ false → unwrap_or o held ≡ held

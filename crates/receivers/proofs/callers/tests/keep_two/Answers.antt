@@ -2,7 +2,7 @@ use Rattle.std.proofs.Common.{◌≡◌, ℕ, List, [], ◌∷◌, ◌++◌, len
 use Rattle.std.proofs.lemmas.List.{take-append-drop}
 use Rattle.receivers.specs.Rules.{held_after_all, EndOf}
 use Rattle.receivers.specs.Keeping.{keeping}
-use Rattle.receivers.specs.Keepers.{kept, unused}
+use Rattle.receivers.specs.Places.{held_in, spare_in}
 use Rattle.receivers.proofs.Fronts.{given_back}
 use Rattle.receivers.proofs.callers.tests.keep_two.Goals as goal
 
@@ -15,9 +15,9 @@ returns c =
     let rows : List (List ℕ) = c.args.first.now ∷ c.args.second.now ∷ [] in
     let whole = take-append-drop k.used k.cells.now in
     let same : k.cells.ghost_name ≡ c.new-keeper.result.cells.ghost_name = cc two.serves.lender in
-    let is : k.cells.now ≡ kept k ++ unused k = sym whole in
-    given_back cells _ (kept k) (unused k) _
+    let is : k.cells.now ≡ held_in k ++ spare_in k = sym whole in
+    given_back cells _ (held_in k) (spare_in k) _
     (search rules)
-    (subst (λ (xs : List ℕ). EndOf xs (unused k)) new.unused two.serves.spare)
+    (subst (λ (xs : List ℕ). EndOf xs (spare_in k)) new.unused two.serves.spare)
     (search rules)
-    (two.held ∙ ap (λ n. held_after_all (keeping n) (kept c.new-keeper.result) rows) new.places ∙ ap (λ held. held_after_all (keeping (length cells)) held rows) new.holds)
+    (two.held ∙ ap (λ n. held_after_all (keeping n) (held_in c.new-keeper.result) rows) new.places ∙ ap (λ held. held_after_all (keeping (length cells)) held rows) new.holds)

@@ -1,0 +1,5 @@
+use Rattle.receivers.proofs.Lines.{line_short}
+use Rattle.receivers.proofs.writer.longest_line.Goals as goal
+
+pub returns-clause-fits : goal.returns-clause-fits
+returns-clause-fits c = line_short
