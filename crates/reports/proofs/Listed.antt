@@ -6,7 +6,7 @@ use Rattle.weights.specs.Scales.{Weighing}
 use Rattle.networks.specs.Networks.{network_graph}
 use Rattle.networks.specs.declared.networks.Network.{Network}
 use Rattle.walks.specs.Acts.{Stays}
-use Rattle.walks.specs.Answering.{letter_l, letter_f}
+use Rattle.walks.specs.Answering.{letter_f}
 use Rattle.walks.specs.Places.{NextMembers, last_of}
 use Rattle.walks.specs.Walks.{network_of, place_of, Listed}
 use Rattle.walks.specs.declared.walks.Walk.{Walk}

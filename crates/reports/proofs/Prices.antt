@@ -1,5 +1,5 @@
 -- A row whose entries are all numbers of links has a price.
-use Rattle.std.proofs.Common.{◌≡◌, ℕ, List, length, Some, None, Ok, Err, Option, Result, sym, ap, ◌∙◌, subst, IfOk, MatchOption}
+use Rattle.std.proofs.Common.{◌≡◌, ℕ, List, length, Ok, Err, Option, Result, sym, ◌∙◌, subst, IfOk, MatchOption}
 use Rattle.std.specs.Result.{result_ok}
 use Rattle.std.proofs.lemmas.Option.{none-some}
 use Rattle.networks.specs.Pricing.{price_rules}

@@ -14,7 +14,7 @@ use Rattle.walks.specs.declared.walks.Walk.{Walk}
 use Rattle.reports.specs.Answers.{RefusedWith, Loads}
 use Rattle.reports.specs.Listing.{Report}
 use Rattle.reports.specs.Kinds.{form_of}
-use Rattle.reports.specs.Reports.{RefusedText, NetworkOf, walked_through, PrintsLoaded, Opens, ReportsKind, ReportsAs, PutsReport}
+use Rattle.reports.specs.Reports.{RefusedText, NetworkOf, walked_through, PrintsLoaded, Opens, ReportsKind, PutsReport}
 use Rattle.reports.specs.Sinks.{PutOut}
 use Rattle.reports.specs.declared.answers.Kind.{Kind}
 

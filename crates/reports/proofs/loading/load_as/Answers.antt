@@ -1,5 +1,4 @@
-use Rattle.std.proofs.Common.{List, replicate, refl}
-use Rattle.networks.specs.declared.links.Link.{Link}
+use Rattle.std.proofs.Common.{replicate, refl}
 use Rattle.reports.proofs.Answering.{loads}
 use Rattle.reports.proofs.loading.load_as.Goals as goal
 

@@ -1,7 +1,7 @@
 use Rattle.std.proofs.Common.{ℕ, List, ap, ◌∙◌, subst, arith}
 use Rattle.networks.specs.Networks.{links_of}
 use Rattle.networks.specs.declared.links.Link.{Link}
-use Rattle.walks.specs.Walks.{network_of, place_of, row_at}
+use Rattle.walks.specs.Walks.{place_of, row_at}
 use Rattle.reports.specs.Totals.{TotalOf}
 use Rattle.reports.proofs.Prices.{priced_total}
 use Rattle.reports.proofs.totals.total_each.Goals as goal
