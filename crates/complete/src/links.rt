@@ -11,15 +11,11 @@ use weights::Metres;
 fn link_back(links: &mut Vec<Link<Metres>>, site: u8) -> Result<(), AllocError>
     ensures { OnOk result (links.new.items ≡ links.old.items ++ links_back site) }
 {
-    for other in 0..site {
-        let link = Link {
-            from: other,
-            to: site,
-            weight: Metres(1),
-        };
-        links.push(link)?;
-    }
-    Ok(())
+    links.extend((0..site).map(|other| Link {
+        from: other,
+        to: site,
+        weight: Metres(1),
+    }))
 }
 
 /// One link between every two of so many sites, each one metre long.

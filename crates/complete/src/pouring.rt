@@ -20,5 +20,5 @@ pub fn pour_all(network: Network<Metres>, tally: &mut Tally) -> (u32, char)
     ensures { (L : List (List ℕ)) → Listed by_metres network L → (here : Option (List ℕ)) × PourDoes L (SitesJoined (network_graph network)) tallying None (tallied tally.old) 4294967295 result.0 result.1 here (tallied tally.new) }
 {
     let mut walk = Walk::begin(network);
-    walk.pour(tally, 4294967295)
+    walk.pour(tally, u32::MAX)
 }
