@@ -30,15 +30,6 @@ use Rattle.cheapest.proofs.Totals.{total_push}
 use Rattle.cheapest.proofs.Translation.{first_same, grown_same, ring_same}
 use Rattle.cheapest.proofs.TreeRows.{candidate_allowed, allowed_candidate}
 
-sum_append : (xs : List ℕ) (x : ℕ) → sum_of numbers (xs ++ (x ∷ [])) ≡ sum_of numbers xs + x
-sum_append [] x = omega arith
-sum_append (y ∷ xs) x = omega (arith, sum_append xs x)
-
--- one more entry is added
-pub sum_more : (w : ℕ → ℕ) (xs : List ℕ) (j : ℕ) → j < length xs
-    → sum_of numbers (map w (take j xs)) + w (get_or xs j 0) ≡ sum_of numbers (map w (take (j + 1) xs))
-sum_more w xs j l = sym (ap (sum_of numbers) (map_more w xs j 0 l) ∙ sum_append (map w (take j xs)) (w (get_or xs j 0)))
-
 module _ (list : Candidates) where
   -- the candidates of a greedy completion are candidates
   picked_small : (S : List ℕ) (c : ℕ) → In c (picks (ring list.start list.end) S (below list.count)) → c < list.count

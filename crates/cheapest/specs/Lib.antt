@@ -6,6 +6,7 @@ pub mod Theorems
 pub mod Classes
 pub mod Plans
 pub mod Scans
+pub mod Runs
 pub mod Positions
 pub mod StandIns
 pub mod Kept

@@ -21,6 +21,7 @@
 #![tactic(auto)]
 
 mod candidates;
+mod choosing;
 mod closing;
 mod completing;
 mod enumeration;
@@ -33,9 +34,9 @@ pub mod plan;
 mod reading;
 mod searching;
 mod seeking;
+mod showing;
 mod spanning;
 mod statements;
-mod stepping;
 mod substituting;
 mod walk;
 

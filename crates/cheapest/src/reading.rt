@@ -1,9 +1,9 @@
-//! Copies of what a table says of a row.
+//! Copies of what a table says of a row, and comparisons with it.
 
-ghost use Rattle.std.specs.Prelude.{◌≡◌, ℕ, ◌<◌, ◌≤◌, true, false, length, slice_index};
+ghost use Rattle.std.specs.Prelude.{◌≡◌, ℕ, ◌<◌, ◌≤◌, length, Decides, slice_index};
+ghost use Rattle.cheapest.specs.Plans.{mark_of};
 
-use crate::candidates::Candidates;
-use crate::walk::Walk;
+use crate::plan::Plan;
 
 /// Writes what the table says of the row's entries from place `i` up to place `n`.
 pub(crate) fn read_row<'a>(
@@ -24,42 +24,14 @@ pub(crate) fn read_row<'a>(
     }
 }
 
-/// Writes the classes of the row's first `n` candidates.
-pub(crate) fn read_classes<'a>(list: &'a Candidates, walk: &'a Walk, n: usize, out: &mut [u16; 64])
-    requires few { n ≤ 64 }
-    requires inside { (j : ℕ) → j < n → slice_index walk.now.at j < list.now.count }
-    ensures len { length out.new ≡ 64 }
-    ensures writes { (j : ℕ) → j < n → slice_index out.new j ≡ slice_index list.now.class (slice_index walk.now.at j) }
-{
-    read_row(&list.class, &walk.at, 0, n, out);
-}
-
-/// Writes the links of the row's candidates from place `i` up to place `n`.
-pub(crate) fn read_links<'a>(
-    list: &'a Candidates,
-    walk: &'a Walk,
-    i: usize,
-    n: usize,
-    out: &mut [u16; 64],
-)
-    requires few { n ≤ 64 }
-    requires inside { (j : ℕ) → j < n → slice_index walk.now.at j < list.now.count }
-    ensures len { length out.new ≡ 64 }
-    ensures keeps { (j : ℕ) → j < i → slice_index out.new j ≡ slice_index out.old j }
-    ensures writes { (j : ℕ) → (i ≤ j) × (j < n) → slice_index out.new j ≡ slice_index list.now.number (slice_index walk.now.at j) }
-{
-    read_row(&list.number, &walk.at, i, n, out);
-}
-
 /// Whether the marks of the links are the wanted ones, place by place.
-pub(crate) fn has_marks<'a>(list: &'a Candidates, wanted: &'a [u16; 64], numbers: &[u16]) -> bool
+pub(crate) fn has_marks<'a>(plan: &'a Plan, numbers: &'a [u16], wanted: &'a [u16; 64]) -> bool
     requires { length numbers.now ≤ 64 }
-    ensures bad { result ≡ false → ((j : ℕ) → j < length numbers.now → slice_index numbers.now j < 512) → ((j : ℕ) → j < length numbers.now → slice_index list.now.plan.mark (slice_index numbers.now j) ≡ slice_index wanted.now j) → ⊥ }
-    ensures good { result ≡ true → ((j : ℕ) → j < length numbers.now → slice_index list.now.plan.mark (slice_index numbers.now j) ≡ slice_index wanted.now j) }
+    ensures { Decides result ((j : ℕ) → j < length numbers.now → (slice_index numbers.now j < 512) × (mark_of plan.now (slice_index numbers.now j) ≡ slice_index wanted.now j)) }
 {
-    for j in 0..numbers.len() {
-        let link = numbers[j] as usize;
-        if link >= 512 || list.plan.mark[link] != wanted[j] {
+    for (link, want) in numbers.iter().zip(wanted) {
+        let link = *link as usize;
+        if link >= 512 || plan.mark[link] != *want {
             return false;
         }
     }

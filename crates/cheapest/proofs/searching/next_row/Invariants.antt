@@ -1,9 +1,0 @@
-use Rattle.cheapest.proofs.Searches.{Trying}
-use Rattle.cheapest.proofs.searching.next_row.Given as goal
-
--- no departure from place i on has the wanted classes
-abbrev pub invariant-loop-i : goal.invariant-loop-i
-invariant-loop-i l = Trying l.list.start l.list.end l.list.class l.list.count l.wanted l.initial.walk.at l.walk.at l.walk.labels l.i
-
-abbrev pub decreases-loop-i : goal.decreases-loop-i
-decreases-loop-i l = l.i

@@ -1,0 +1,9 @@
+use Rattle.cheapest.proofs.Searches.{Trying}
+use Rattle.cheapest.proofs.walk.Walk.next_row.Given as goal
+
+-- no departure from place i on has the wanted classes
+abbrev pub invariant-loop-i : goal.invariant-loop-i
+invariant-loop-i l = Trying l.list.start l.list.end l.list.class l.list.count l.wanted l.initial.self.at l.self.at l.self.labels l.i
+
+abbrev pub decreases-loop-i : goal.decreases-loop-i
+decreases-loop-i l = l.i
