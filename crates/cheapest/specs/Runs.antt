@@ -1,6 +1,6 @@
 -- Runs over the candidates of a plan, as the functions of a walk make them: the words of `Scans` for these
 -- candidates and for the row that the walk has built.
-use Rattle.std.specs.Prelude.{ℕ, Bool, Option, List, [], take}
+use Rattle.std.specs.Prelude.{ℕ, Bool, Option, List, []}
 use Rattle.forests.specs.Closures.{push}
 use Rattle.forests.specs.Labels.{below}
 use Rattle.cheapest.specs.Scans.{value_at, ring, matches, grown, Fronts, Placed, Completed, Moved, Matched, Filled, Crosses}

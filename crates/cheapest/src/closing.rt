@@ -36,6 +36,8 @@ impl Plan {
     {
         let rows = Rows::new(*self);
         let others = Rows::new(self.without(link));
-        !(rows.joined() && rows.marks() == others.marks())
+        let same = rows.marks() == others.marks();
+        let avoids = rows.joined() && same;
+        !avoids
     }
 }

@@ -35,7 +35,6 @@ mod reading;
 mod searching;
 mod seeking;
 mod showing;
-mod spanning;
 mod statements;
 mod substituting;
 mod walk;

@@ -6,7 +6,6 @@ ghost use Rattle.cheapest.specs.Plans.{graph_of, mark_of, first_of};
 ghost use Rattle.cheapest.specs.Positions.{plan_of, is_on, row_of, HasTree};
 
 use crate::enumeration::Rows;
-use crate::spanning::is_tree;
 
 impl Rows {
     /// Whether the usable links join all sites, so that there is a spanning tree.
@@ -14,7 +13,7 @@ impl Rows {
         ensures joined { Decides result (SitesJoined (graph_of (plan_of self.now))) }
         ensures tree { Decides result (HasTree (plan_of self.now)) }
     {
-        is_tree(&self.list.plan, self.size)
+        self.size + 1 == self.list.plan.sites as usize
     }
 
     /// Whether the walk is on a row.

@@ -25,12 +25,9 @@ impl Walk {
         requires fronts { FrontsIn list.now self.now p }
         ensures { MatchOption result ((c : ℕ) → c < list.now.count → CrossesIn list.now (take p self.now.at) link class c → ⊥) (λ c. (c < list.now.count) × CrossesIn list.now (take p self.now.at) link class c × ((d : ℕ) → d < c → CrossesIn list.now (take p self.now.at) link class d → ⊥)) }
     {
-        for c in 0..list.count {
-            if list.number[c] != link && list.class[c] == class && self.apart(list, p, c) {
-                return Some(c);
-            }
-        }
-        None
+        (0..list.count).find(|c| {
+            list.number[*c] != link && list.class[*c] == class && self.apart(list, p, *c)
+        })
     }
 }
 
@@ -40,7 +37,8 @@ impl Rows {
     pub fn substitute(&self, link: u16) -> Option<u16>
         ensures { MatchOption result ((f : ℕ) → In link (row_of self.now) → StandsIn (plan_of self.now) (row_of self.now) link f → ⊥) (λ f. FirstStandIn (plan_of self.now) (row_of self.now) link f) }
     {
-        let q = place_of(self.row(), link)?;
+        let row = self.row();
+        let q = place_of(row, link)?;
         let mut rest = self.row;
         rest.copy_within(q + 1.., q);
         let mut walk = Walk::empty();

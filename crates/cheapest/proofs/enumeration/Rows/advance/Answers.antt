@@ -1,7 +1,7 @@
 use Rattle.std.proofs.Common.{ℕ, ◌-◌, take, refl, ap, arith}
 use Rattle.std.proofs.lemmas.Bool.{both_ways}
 use Rattle.cheapest.proofs.Joining.{tree_size}
-use Rattle.cheapest.proofs.Standings.{row_placed, none_follows, again_standing, next_follows, next_standing}
+use Rattle.cheapest.proofs.Standings.{none_follows, again_standing, next_follows, next_standing}
 use Rattle.cheapest.proofs.Stances.{standing, owed, stops_row, steps_begin, steps_follow}
 use Rattle.cheapest.proofs.enumeration.Rows.advance.Goals as goal
 

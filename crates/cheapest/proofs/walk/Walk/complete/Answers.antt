@@ -1,7 +1,6 @@
-use Rattle.std.proofs.Common.{sym, refl, ap, arith}
+use Rattle.std.proofs.Common.{sym, refl, arith}
 use Rattle.std.proofs.lemmas.Bool.{not-true, not-false}
-use Rattle.cheapest.specs.declared.walk.Walk.{Walk}
-use Rattle.cheapest.proofs.Growth.{growing_moved, growing_skip, growing_take, completed, ended, given_up, misses_class, misses_high}
+use Rattle.cheapest.proofs.Growth.{growing_skip, growing_take, completed, ended, given_up, misses_class, misses_high}
 use Rattle.cheapest.proofs.Listed.{classes_rise}
 use Rattle.cheapest.proofs.walk.Walk.complete.Goals as goal
 use Rattle.cheapest.proofs.walk.Walk.complete.Goals.{then-apart+else-list-c-2, else-apart}
@@ -39,11 +38,11 @@ loop-c-preserved c =
     elim c.if-apart.branch [
       | then-apart+else-list-c-2 w ↦
           let e = w.choose.ensures in
-          growing_moved (ap (λ (v : Walk). v.at) w.self-is) (ap (λ (v : Walk). v.labels) w.self-is) w.p-is
+          rw (w.self-is, w.p-is)
           (growing_take here w.choose.new.self.at w.choose.new.self.labels (omega arith) (omega arith) c.loop-c-test.true
           (not-true _ (sym w.if-apart.ensures)) w.if-list-c-2.false e.row w.choose.new.self.wide e.fronts)
       | else-apart w ↦
-          growing_moved (ap (λ (v : Walk). v.at) w.self-is) (ap (λ (v : Walk). v.labels) w.self-is) w.p-is
+          rw (w.self-is, w.p-is)
           (growing_skip here c.loop-c-test.true (not-false _ (sym w.if-apart.ensures)))
     ]
 

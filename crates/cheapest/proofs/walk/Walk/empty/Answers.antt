@@ -1,4 +1,4 @@
-use Rattle.std.proofs.Common.{rules, arith}
+use Rattle.std.proofs.Common.{rules}
 use Rattle.cheapest.proofs.walk.Walk.empty.Goals as goal
 
 pub returns : goal.returns

@@ -1,7 +1,6 @@
-use Rattle.std.proofs.Common.{sym, refl, ap}
+use Rattle.std.proofs.Common.{sym, refl}
 use Rattle.std.proofs.lemmas.Bool.{not-true, not-false}
-use Rattle.cheapest.specs.declared.walk.Walk.{Walk}
-use Rattle.cheapest.proofs.Filling.{filling_skip, filling_room, filling_take, filling_moved, filled}
+use Rattle.cheapest.proofs.Filling.{filling_skip, filling_room, filling_take, filled}
 use Rattle.cheapest.proofs.walk.Walk.first_row.Goals as goal
 use Rattle.cheapest.proofs.walk.Walk.first_row.Goals.{then-apart, else-apart}
 
@@ -24,10 +23,10 @@ pub loop-c-preserved : goal.loop-c-preserved
 loop-c-preserved c =
     let here = c.loop-c.invariant in
     elim c.if-apart.branch [
-      | then-apart w ↦ filling_moved (ap (λ (v : Walk). v.at) w.self-is) (ap (λ (v : Walk). v.labels) w.self-is) w.p-is
+      | then-apart w ↦ rw (w.self-is, w.p-is)
           (filling_take here w.choose.new.self.at w.choose.new.self.labels c.loop-c-test.true (not-true _ (sym w.if-apart.ensures))
           w.choose.ensures.row w.choose.new.self.wide w.choose.ensures.fronts)
-      | else-apart w ↦ filling_moved (ap (λ (v : Walk). v.at) w.self-is) (ap (λ (v : Walk). v.labels) w.self-is) w.p-is
+      | else-apart w ↦ rw (w.self-is, w.p-is)
           (filling_skip here c.loop-c-test.true (not-false _ (sym w.if-apart.ensures)))
     ]
 

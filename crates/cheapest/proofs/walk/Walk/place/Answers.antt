@@ -1,7 +1,6 @@
-use Rattle.std.proofs.Common.{sym, ap, arith}
+use Rattle.std.proofs.Common.{sym, arith}
 use Rattle.std.proofs.lemmas.Bool.{not-true, not-false}
-use Rattle.cheapest.specs.declared.walk.Walk.{Walk}
-use Rattle.cheapest.proofs.Searches.{matched_all, matched_end, unmatched_ring, matching_take, matching_skip, matching_moved}
+use Rattle.cheapest.proofs.Searches.{matched_all, matched_end, unmatched_ring, matching_take, matching_skip}
 use Rattle.cheapest.proofs.walk.Walk.place.Goals as goal
 use Rattle.cheapest.proofs.walk.Walk.place.Goals.{then-list-c+else-not-apart, else-list-c}
 
@@ -17,11 +16,11 @@ loop-c-preserved c =
     let here = c.loop-c.invariant in
     let few = c.requires.few in
     elim c.if-list-c.branch [
-      | then-list-c+else-not-apart w ↦ matching_moved (ap (λ (v : Walk). v.at) w.self-is) (ap (λ (v : Walk). v.labels) w.self-is) w.p-is
+      | then-list-c+else-not-apart w ↦ rw (w.self-is, w.p-is)
           (matching_take here c.loop-c-test.true (omega arith) w.if-list-c.true w.choose.new.self.at w.choose.new.self.labels
           (omega arith) (not-true _ (sym w.if-not-apart.ensures))
           w.choose.ensures.row w.choose.new.self.wide w.choose.ensures.fronts)
-      | else-list-c w ↦ matching_moved (ap (λ (v : Walk). v.at) w.self-is) (ap (λ (v : Walk). v.labels) w.self-is) w.p-is
+      | else-list-c w ↦ rw (w.self-is, w.p-is)
           (matching_skip here c.loop-c-test.true (omega arith) w.if-list-c.false)
     ]
 
