@@ -9,9 +9,9 @@ use Rattle.cheapest.specs.Plans.{mark_of}
 use Rattle.cheapest.specs.Positions.{plan_of, is_on, row_of, CheapestIn}
 use Rattle.cheapest.specs.Scans.{value_at, Fronts, Placed, Matched, Crosses}
 use Rattle.cheapest.specs.StandIns.{StandsIn, FirstStandIn}
+use Rattle.cheapest.specs.Runs.{row_in}
 use Rattle.cheapest.specs.declared.enumeration.Rows.{Rows}
 use Rattle.cheapest.proofs.Listed.{key_of, keys_rise}
-use Rattle.cheapest.proofs.RowTests.{passes}
 use Rattle.cheapest.proofs.Standings.{numbers_front, small_front, row_cheapest}
 use Rattle.cheapest.proofs.Stances.{standing, row_on}
 use Rattle.cheapest.proofs.Swaps.{leaving, rest_passes, crosses_stands, stands_crosses, left_out}
@@ -48,7 +48,7 @@ module _ (rows : Rows) (on : is_on rows ≡ true) (q : ℕ) (ql : q < rows.size)
   placed =
       subst (Placed rows.list.start rows.list.end rows.list.number rows.list.count (take (rows.size - 1) rest) at stack)
       (length-take-le (rows.size - 1) rest (omega (arith, rows.small)))
-      (matched.placed (matched.answers ∙ ap (passes rows.list) rest_is ∙ rest_passes rows.list (take rows.size rows.row) cheapest q here))
+      (matched.placed (matched.answers ∙ ap (row_in rows.list) rest_is ∙ rest_passes rows.list (take rows.size rows.row) cheapest q here))
 
   pub rest_fronts : Fronts rows.list.start rows.list.end at stack (rows.size - 1)
   rest_fronts = placed.fronts

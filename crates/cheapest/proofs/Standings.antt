@@ -15,6 +15,7 @@ use Rattle.cheapest.specs.Completions.{departs, Good}
 use Rattle.cheapest.specs.Trees.{Cheapest, Follows, NoneFollows}
 use Rattle.cheapest.specs.Plans.{graph_of, mark_of, first_of}
 use Rattle.cheapest.specs.Scans.{value_at, ring, grown, departed, Fronts, Placed, Departs, Matched, Filled}
+use Rattle.cheapest.specs.Runs.{row_in}
 use Rattle.cheapest.specs.declared.candidates.Candidates.{Candidates}
 use Rattle.cheapest.proofs.Bases.{no_longer}
 use Rattle.cheapest.proofs.Departures.{departure_free, departure_within}
@@ -24,7 +25,7 @@ use Rattle.cheapest.proofs.Growth.{in_below_from}
 use Rattle.cheapest.proofs.Numbers.{numbers_lawful}
 use Rattle.cheapest.proofs.Listed.{key_of, plan_fits}
 use Rattle.cheapest.proofs.Translation.{first_same, departs_same}
-use Rattle.cheapest.proofs.RowTests.{passes, passes_best, best_passes, first_best, passes_cheapest, cheapest_passes}
+use Rattle.cheapest.proofs.RowTests.{passes_best, best_passes, first_best, passes_cheapest, cheapest_passes}
 
 pub record Standing (list : Candidates) (at : List ℕ) (stack : List (List ℕ)) (size : ℕ) (wanted row : List ℕ) : Type 0 where
   pub small : size < 64
@@ -37,7 +38,7 @@ pub record Standing (list : Candidates) (at : List ℕ) (stack : List (List ℕ)
   pub levels : (j : ℕ) → j < size → get_or list.class (get_or at j 0) 0 ≡ get_or wanted j 0
   pub shows : (j : ℕ) → j < size → get_or list.number (get_or at j 0) 0 ≡ get_or row j 0
   pub fronts : Fronts list.start list.end at stack size
-  pub passing : passes list (take size row) ≡ true
+  pub passing : row_in list (take size row) ≡ true
 
 -- two fronts of lists, place by place
 pub same_fronts : (n : ℕ) (xs ys : List ℕ) → n ≤ length xs → length ys ≡ n → ((j : ℕ) → j < n → get_or xs j 0 ≡ get_or ys j 0) → take n xs ≡ ys
@@ -268,14 +269,14 @@ module _ {list : Candidates} {at : List ℕ} {stack : List (List ℕ)} {size : �
         levels = λ j l. list.classes (get_or at' j 0) (placed.inside j l) ∙ ap (mark_of list.plan) (placed.classes j l) ∙ marks j l;
         shows = λ j l. placed.classes j l ∙ sym (same j l);
         fronts = placed.fronts;
-        passing = ap (passes list) is ∙ sym found.answers;
+        passing = ap (row_in list) is ∙ sym found.answers;
       }
 
   -- the row is found again
   pub again_standing : (given : List ℕ) {at' : List ℕ} {stack' : List (List ℕ)} {r : Bool} → given ≡ take size row
       → Matched list.start list.end list.number list.count given at' stack' r → length at' ≡ 64 → Standing list at' stack' size wanted row
   again_standing given {at'} {stack'} {r} e found wide =
-      let yes-r : r ≡ true = found.answers ∙ ap (passes list) e ∙ here.passing in
+      let yes-r : r ≡ true = found.answers ∙ ap (row_in list) e ∙ here.passing in
       let at_j : (j : ℕ) → j < size → get_or row j 0 ≡ get_or given j 0 = λ j l. sym (get_or-take size row j 0 l) ∙ ap (λ xs. get_or xs j 0) (sym e) in
       other_standing given row (subst (Matched list.start list.end list.number list.count given at' stack') yes-r found)
       (ap length e ∙ length-take-le size row (omega (arith, here.small, here.wide_row)))
@@ -309,7 +310,7 @@ module _ (list : Candidates) {at : List ℕ} {stack : List (List ℕ)} {size : �
     levels = λ j l. sym (classes j l);
     shows = λ j l. sym (links j l);
     fronts = filled.fronts;
-    passing = ap (passes list) first_is ∙ best_passes list (first_of list.plan) (first_best list);
+    passing = ap (row_in list) first_is ∙ best_passes list (first_of list.plan) (first_best list);
   }
 
 -- An empty row has the labels of an empty prefix.
