@@ -1,7 +1,7 @@
 -- Links that some cheapest tree has. The greedy completion of a link that is no loop has the least total of
 -- all trees with that link, so the link is in a cheapest tree if that total is the first row's.
-use Rattle.std.proofs.Common.{◌≡◌, ℕ, ◌+◌, ◌<◌, true, false, leb, List, [], ◌∷◌, ◌++◌, map, length, get_or, take, Decides, sym, refl, ap, ◌∙◌, subst, inl, inr, arith}
-use Rattle.std.proofs.lemmas.List.{map_more, length-map, length-take-le}
+use Rattle.std.proofs.Common.{◌≡◌, ℕ, ◌+◌, ◌<◌, true, false, leb, List, [], ◌∷◌, map, length, get_or, take, Decides, sym, refl, ap, ◌∙◌, subst, inl, inr, arith}
+use Rattle.std.proofs.lemmas.List.{length-map, length-take-le}
 use Rattle.std.proofs.lemmas.Bool.{both_ways, leb-true, le-leb}
 use Rattle.weights.specs.Amounts.{numbers}
 use Rattle.weights.specs.Scales.{sum_of}
@@ -30,15 +30,6 @@ use Rattle.cheapest.proofs.Standings.{classes_marks}
 use Rattle.cheapest.proofs.Totals.{total_push}
 use Rattle.cheapest.proofs.Translation.{first_same, grown_same, ring_same}
 use Rattle.cheapest.proofs.TreeRows.{candidate_allowed, allowed_candidate}
-
-sum_append : (xs : List ℕ) (x : ℕ) → sum_of numbers (xs ++ (x ∷ [])) ≡ sum_of numbers xs + x
-sum_append [] x = omega arith
-sum_append (y ∷ xs) x = omega (arith, sum_append xs x)
-
--- one more entry is added
-pub sum_more : (w : ℕ → ℕ) (xs : List ℕ) (j : ℕ) → j < length xs
-    → sum_of numbers (map w (take j xs)) + w (get_or xs j 0) ≡ sum_of numbers (map w (take (j + 1) xs))
-sum_more w xs j l = sym (ap (sum_of numbers) (map_more w xs j 0 l) ∙ sum_append (map w (take j xs)) (w (get_or xs j 0)))
 
 module _ (list : Candidates) where
   -- the candidates of a greedy completion are candidates

@@ -1,35 +1,38 @@
 -- The link that stands in for a link of the row that a walk is on: the first candidate that crosses to the
 -- other part of the row without that link, and has its mark.
-use Rattle.std.proofs.Common.{◌≡◌, ℕ, ◌+◌, ◌-◌, ◌<◌, ◌≤◌, Bool, true, List, map, length, get_or, take, sym, ap, ◌∙◌, subst, inl, inr, arith}
+use Rattle.std.proofs.Common.{◌≡◌, ℕ, ◌+◌, ◌-◌, ◌<◌, ◌≤◌, Bool, true, List, [], map, length, get_or, take, sym, ap, ◌∙◌, subst, inl, inr, arith}
 use Rattle.std.proofs.lemmas.List.{length-take-le, get_or-take}
-use Rattle.std.proofs.lemmas.Bool.{cases_lt, cases_eq}
+use Rattle.std.proofs.lemmas.Bool.{cases_Bool, cases_lt, cases_eq, cond-false}
 use Rattle.forests.specs.Lists.{In}
-use Rattle.forests.proofs.Members.{in_get_d, place}
+use Rattle.forests.proofs.Members.{in_get_d}
 use Rattle.cheapest.specs.Plans.{mark_of}
 use Rattle.cheapest.specs.Positions.{plan_of, is_on, row_of, CheapestIn}
 use Rattle.cheapest.specs.Scans.{Fronts, Placed, Matched, Crosses}
 use Rattle.cheapest.specs.StandIns.{StandsIn, FirstStandIn}
+use Rattle.cheapest.specs.Runs.{row_in}
 use Rattle.cheapest.specs.declared.enumeration.Rows.{Rows}
 use Rattle.cheapest.specs.Candidates.{start_of, end_of, class_of, number_of}
 use Rattle.cheapest.proofs.Listed.{key_of, keys_rise}
-use Rattle.cheapest.proofs.RowTests.{passes}
 use Rattle.cheapest.proofs.Standings.{numbers_front, small_front, row_cheapest}
 use Rattle.cheapest.proofs.Stances.{standing, row_on}
 use Rattle.cheapest.proofs.Swaps.{leaving, rest_passes, crosses_stands, stands_crosses, left_out}
 
--- a link that is at no place of the row is not in it
-pub not_in : (rows : Rows) (e : ℕ) → is_on rows ≡ true → ((j : ℕ) → j < rows.size → get_or rows.row j 0 ≡ e → ⊥) → In e (row_of rows) → ⊥
-not_in rows e on none m =
-    let r = take rows.size rows.row in
-    let p = place e r 0 (subst (λ xs. In e xs) (row_on rows on) m) in
-    let l : p.0 < rows.size = omega (arith, p.1, rows.small, rows.widerow, length-take-le rows.size rows.row (omega (arith, rows.small, rows.widerow))) in
-    none p.0 l (sym (get_or-take rows.size rows.row p.0 0 l) ∙ p.2)
+-- a walk with a link at some place of its row is on it
+pub row_place : (rows : Rows) (q e : ℕ) → q < length (row_of rows) → get_or (row_of rows) q 0 ≡ e → (is_on rows ≡ true) × (q < rows.size) × (get_or rows.row q 0 ≡ e)
+row_place rows q e l is = elim (cases_Bool rows.on) [
+  | inl on ↦
+      let r = row_on rows on in
+      let k : q < rows.size = omega (arith, ap length r, length-take-le rows.size rows.row (omega (arith, rows.small, rows.widerow))) in
+      (on, k, sym (get_or-take rows.size rows.row q 0 k) ∙ ap (λ xs. get_or xs q 0) (sym r) ∙ is)
+  | inr off ↦ absurd (omega (arith, ap length (cond-false rows.on (take rows.size rows.row) [] off)))
+]
 
 module _ (rows : Rows) (on : is_on rows ≡ true) (q : ℕ) (ql : q < rows.size) (rest : List ℕ) (wide : length rest ≡ 64)
     (before : (j : ℕ) → j < q → get_or rest j 0 ≡ get_or rows.row j 0)
     (after : (j : ℕ) → (q ≤ j) × (j < 63) → get_or rest j 0 ≡ get_or rows.row (j + 1) 0)
     {at : List ℕ} {stack : List (List ℕ)} {r : Bool} (wide_at : length at ≡ 64)
-    (found : Matched (start_of rows.list) (end_of rows.list) (number_of rows.list) rows.list.count (take (rows.size - 1) rest) at stack r) where
+    (given : List ℕ) (is-given : given ≡ take (rows.size - 1) rest)
+    (found : Matched (start_of rows.list) (end_of rows.list) (number_of rows.list) rows.list.count given at stack r) where
   here : q < length (take rows.size rows.row)
   here = omega (arith, length-take-le rows.size rows.row (omega (arith, rows.small, rows.widerow)))
 
@@ -39,11 +42,14 @@ module _ (rows : Rows) (on : is_on rows ≡ true) (q : ℕ) (ql : q < rows.size)
   rest_is : take (rows.size - 1) rest ≡ leaving q (take rows.size rows.row)
   rest_is = left_out rows.size q rows.row rest ql rows.small rows.widerow wide before after
 
+  matched : Matched (start_of rows.list) (end_of rows.list) (number_of rows.list) rows.list.count (take (rows.size - 1) rest) at stack r
+  matched = subst (λ xs. Matched (start_of rows.list) (end_of rows.list) (number_of rows.list) rows.list.count xs at stack r) is-given found
+
   placed : Placed (start_of rows.list) (end_of rows.list) (number_of rows.list) rows.list.count (take (rows.size - 1) rest) at stack (rows.size - 1)
   placed =
       subst (Placed (start_of rows.list) (end_of rows.list) (number_of rows.list) rows.list.count (take (rows.size - 1) rest) at stack)
       (length-take-le (rows.size - 1) rest (omega (arith, rows.small)))
-      (found.placed (found.answers ∙ ap (passes rows.list) rest_is ∙ rest_passes rows.list (take rows.size rows.row) cheapest q here))
+      (matched.placed (matched.answers ∙ ap (row_in rows.list) rest_is ∙ rest_passes rows.list (take rows.size rows.row) cheapest q here))
 
   pub rest_fronts : Fronts (start_of rows.list) (end_of rows.list) at stack (rows.size - 1)
   rest_fronts = placed.fronts
@@ -69,11 +75,13 @@ module _ (rows : Rows) (on : is_on rows ≡ true) (q : ℕ) (ql : q < rows.size)
     crossing h s = stands_crosses rows.list (take rows.size rows.row) cheapest q here (take (rows.size - 1) at) small shown e (get_or rows.wanted q 0) at_q mark
         h (subst (λ xs. StandsIn (plan_of rows) xs e h) (row_on rows on) s)
 
-    module _ (c : ℕ) (none : (d : ℕ) → d < c → d < rows.list.count
-        → Crosses (start_of rows.list) (end_of rows.list) (class_of rows.list) (number_of rows.list) (take (rows.size - 1) at) e (get_or rows.wanted q 0) d → ⊥) where
-      pub none_stands : rows.list.count ≤ c → (h : ℕ) → StandsIn (plan_of rows) (row_of rows) e h → ⊥
-      none_stands past h s = let x = crossing h s in none x.0 (omega (arith, x.1)) x.1 x.3
+    pub none_stands : ((d : ℕ) → d < rows.list.count
+        → Crosses (start_of rows.list) (end_of rows.list) (class_of rows.list) (number_of rows.list) (take (rows.size - 1) at) e (get_or rows.wanted q 0) d → ⊥)
+        → (h : ℕ) → StandsIn (plan_of rows) (row_of rows) e h → ⊥
+    none_stands none h s = let x = crossing h s in none x.0 x.1 x.3
 
+    module _ (c : ℕ) (none : (d : ℕ) → d < c
+        → Crosses (start_of rows.list) (end_of rows.list) (class_of rows.list) (number_of rows.list) (take (rows.size - 1) at) e (get_or rows.wanted q 0) d → ⊥) where
       pub first_stands : (l : c < rows.list.count)
           → Crosses (start_of rows.list) (end_of rows.list) (class_of rows.list) (number_of rows.list) (take (rows.size - 1) at) e (get_or rows.wanted q 0) c
           → FirstStandIn (plan_of rows) (row_of rows) e (number_of rows.list c)
@@ -87,7 +95,7 @@ module _ (rows : Rows) (on : is_on rows ≡ true) (q : ℕ) (ql : q < rows.size)
             lowest = λ h s.
                 let x = crossing h s in
                 elim (cases_lt x.0 c) [
-                  | inl less ↦ absurd (none x.0 less x.1 x.3)
+                  | inl less ↦ absurd (none x.0 less x.3)
                   | inr more ↦ elim (cases_eq c x.0) [
                     | inl same ↦ omega (arith, ap (λ k. key (number_of rows.list k)) same, ap key x.2)
                     | inr ne ↦ omega (arith, keys_rise rows.list c x.0 (omega arith) x.1, ap key x.2)

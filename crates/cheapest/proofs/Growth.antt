@@ -1,9 +1,9 @@
 -- A run over the candidates that completes a row. What is completed from the start is what is completed
 -- from here: a candidate that closes a ring is passed over, and any other is the next of the row. So the
 -- run ends with the whole completion, or at a place where its class is another than wanted.
-use Rattle.std.proofs.Common.{◌≡◌, ℕ, ◌+◌, ◌-◌, ◌<◌, ◌≤◌, true, false, List, [], ◌∷◌, ◌++◌, map, length, get_or, take, drop, set, sym, ap, ◌∙◌, subst, inl, inr, arith}
+use Rattle.std.proofs.Common.{◌≡◌, ℕ, ◌+◌, ◌-◌, ◌<◌, ◌≤◌, Bool, true, false, eqb, List, [], ◌∷◌, ◌++◌, map, length, get_or, take, drop, set, sym, ap, ◌∙◌, subst, inl, inr, arith}
 use Rattle.std.proofs.lemmas.List.{append-nil, append_assoc, length-append, length-map, length-drop, length-take-le, get_or-append_right, get_or-drop, get_or-map, get_or_at, get_or-set_same, get_or-set_other, take-append-le, take-take, take_more_set, take-set-le, drop_more, drop_all}
-use Rattle.std.proofs.lemmas.Bool.{cases_eq, cond-true, cond-false, true≢false, false≢true}
+use Rattle.std.proofs.lemmas.Bool.{cases_eq, cond-true, cond-false, eq-eqb, ne_eqb, true≢false, false≢true}
 use Rattle.forests.specs.Lists.{In}
 use Rattle.forests.specs.Closures.{push, picks}
 use Rattle.forests.specs.Labels.{below}
@@ -189,3 +189,12 @@ module _ {start end class : ℕ → ℕ} {n : ℕ} {wanted row₀ : List ℕ} {i
     grows = λ e. absurd (false≢true e);
     misses = λ _. none;
   }
+
+  -- no candidate is left
+  pub ended : n ≤ c → length wanted < 64 → Completed start end class n wanted row₀ i first row stack (eqb p (length wanted))
+  ended l lw =
+      let is = λ (r : Bool). Completed start end class n wanted row₀ i first row stack r in
+      elim (cases_eq p (length wanted)) [
+        | inl e ↦ subst is (sym (eq-eqb p (length wanted) e)) (completed (omega arith) (omega arith))
+        | inr ne ↦ subst is (sym (ne_eqb p (length wanted) ne)) (given_up (misses_end l (omega (arith, here.far)) (omega (arith, here.far))))
+      ]

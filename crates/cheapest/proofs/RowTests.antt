@@ -12,9 +12,9 @@ use Rattle.forests.specs.Labels.{below, closes_ring}
 use Rattle.forests.proofs.Labelling.{chains}
 use Rattle.cheapest.specs.Trees.{Cheapest}
 use Rattle.cheapest.specs.Plans.{graph_of, mark_of, ranked_of, first_of}
-use Rattle.cheapest.specs.Scans.{ring, matches}
+use Rattle.cheapest.specs.Scans.{matches}
+use Rattle.cheapest.specs.Runs.{row_in}
 use Rattle.cheapest.specs.declared.candidates.Candidates.{Candidates}
-use Rattle.cheapest.specs.Candidates.{start_of, end_of, number_of}
 use Rattle.cheapest.proofs.Successors.{Best}
 use Rattle.cheapest.proofs.Bases.{first_base}
 use Rattle.cheapest.proofs.TreeRows.{graph_setting, graph_proper, candidates_rising, cheapest_best, best_cheapest}
@@ -65,23 +65,20 @@ module _ (Span : List ℕ → ℕ → Type 0) (test : List ℕ → ℕ → Bool)
   ]
 
 -- the test, as the code makes it
-abbrev pub passes : Candidates → List ℕ → Bool
-passes list row = matches (ring (start_of list) (end_of list)) (number_of list) [] (below list.count) row
-
 module _ (list : Candidates) where
-  passes_links : (row : List ℕ) → passes list row ≡ matches (closes_ring (graph_of list.plan)) (λ x. x) [] (ranked_of list.plan) row
+  passes_links : (row : List ℕ) → row_in list row ≡ matches (closes_ring (graph_of list.plan)) (λ x. x) [] (ranked_of list.plan) row
   passes_links row = matches_same list [] (below list.count) row (λ c m. absurd m) (small_below list)
       ∙ ap (λ cs. matches (closes_ring (graph_of list.plan)) (λ x. x) [] cs row) (listed list)
 
   rising : Rising (key_of list.plan) (ranked_of list.plan)
   rising = candidates_rising (graph_of list.plan) numbers numbers_lawful (mark_of list.plan)
 
-  pub free_passes : (row : List ℕ) → Rising (key_of list.plan) row → Within row (ranked_of list.plan) → Free (ClosesRing (graph_of list.plan)) [] row → passes list row ≡ true
+  pub free_passes : (row : List ℕ) → Rising (key_of list.plan) row → Within row (ranked_of list.plan) → Free (ClosesRing (graph_of list.plan)) [] row → row_in list row ≡ true
   free_passes row rises within free =
       let g = graph_of list.plan in
       passes_links row ∙ match_whole (ClosesRing g) (closes_ring g) (chains g.from g.to) (key_of list.plan) [] (ranked_of list.plan) row rising rises within free
 
-  pub passes_best : (row : List ℕ) → passes list row ≡ true → map (mark_of list.plan) row ≡ map (mark_of list.plan) (first_of list.plan)
+  pub passes_best : (row : List ℕ) → row_in list row ≡ true → map (mark_of list.plan) row ≡ map (mark_of list.plan) (first_of list.plan)
       → Best (graph_setting (graph_of list.plan) (key_of list.plan) []) numbers (mark_of list.plan) row
   passes_best row e level =
       let p = list.plan in
@@ -93,16 +90,16 @@ module _ (list : Candidates) where
         amounts = level;
       }
 
-  pub best_passes : (row : List ℕ) → Best (graph_setting (graph_of list.plan) (key_of list.plan) []) numbers (mark_of list.plan) row → passes list row ≡ true
+  pub best_passes : (row : List ℕ) → Best (graph_setting (graph_of list.plan) (key_of list.plan) []) numbers (mark_of list.plan) row → row_in list row ≡ true
   best_passes row b = free_passes row b.base.rises b.base.within b.base.free
 
-  pub passes_cheapest : length (first_of list.plan) + 1 ≡ list.plan.sites → (row : List ℕ) → passes list row ≡ true
+  pub passes_cheapest : length (first_of list.plan) + 1 ≡ list.plan.sites → (row : List ℕ) → row_in list row ≡ true
       → map (mark_of list.plan) row ≡ map (mark_of list.plan) (first_of list.plan) → Cheapest (graph_of list.plan) numbers (mark_of list.plan) row
   passes_cheapest size row e level =
       best_cheapest (graph_of list.plan) numbers numbers_lawful (mark_of list.plan) (plan_fits list.plan) size row (passes_best row e level)
 
   pub cheapest_passes : (row : List ℕ) → Cheapest (graph_of list.plan) numbers (mark_of list.plan) row
-      → (passes list row ≡ true) × (map (mark_of list.plan) row ≡ map (mark_of list.plan) (first_of list.plan))
+      → (row_in list row ≡ true) × (map (mark_of list.plan) row ≡ map (mark_of list.plan) (first_of list.plan))
   cheapest_passes row c =
       let b = cheapest_best (graph_of list.plan) numbers numbers_lawful (mark_of list.plan) (plan_fits list.plan) row c in
       (best_passes row b, b.amounts)

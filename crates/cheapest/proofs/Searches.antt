@@ -1,7 +1,7 @@
 -- Searches over candidates. The departures of a row are tried from the last place on; each try keeps the
 -- front before its place, so the next try finds what it needs. The candidates of given link numbers are
 -- found in one run, as the test `matches` goes.
-use Rattle.std.proofs.Common.{◌≡◌, ℕ, ◌+◌, ◌<◌, ◌≤◌, Bool, true, false, not, ◌&&◌, eqb, List, [], ◌∷◌, map, length, get_or, take, drop, set, sym, refl, ap, ◌∙◌, subst, inl, inr, arith}
+use Rattle.std.proofs.Common.{◌≡◌, ℕ, ◌+◌, ◌<◌, ◌≤◌, Bool, true, false, not, ◌&&◌, eqb, None, Some, List, [], ◌∷◌, map, length, get_or, take, drop, set, sym, refl, ap, ◌∙◌, subst, inl, inr, arith}
 use Rattle.std.proofs.lemmas.List.{get_or-take, take-take, drop_more, drop_all}
 use Rattle.std.proofs.lemmas.Bool.{cases_eq, cond-true, cond-false, eq-eqb, ne_eqb, false≢true}
 use Rattle.forests.specs.Closures.{push}
@@ -26,15 +26,8 @@ module _ {start end class : ℕ → ℕ} {n : ℕ} {wanted row₀ row : List ℕ
     misses = λ j l k. absurd (omega arith);
   }
 
-  pub moved_none : Trying start end class n wanted row₀ row stack 0 → Moved start end class n wanted row₀ row stack 0
-  moved_none here = record {
-    reach = omega arith;
-    empty = here.placed.fronts;
-    same = λ i e. absurd (omega arith);
-    placed = λ i e. absurd (omega arith);
-    grows = λ i e. absurd (omega arith);
-    misses = λ j l k. here.misses j l k;
-  }
+  pub moved_none : Trying start end class n wanted row₀ row stack 0 → Moved start end class n wanted row₀ row stack None
+  moved_none here = record { empty = here.placed.fronts; answers = λ j l. here.misses j (omega arith) l }
 
   -- one try, at place i
   module _ (i : ℕ) {i' : ℕ} (here : Trying start end class n wanted row₀ row stack i') (down : i + 1 ≡ i') where
@@ -52,18 +45,18 @@ module _ {start end class : ℕ → ℕ} {n : ℕ} {wanted row₀ row : List ℕ
     one_placed = placed_less start end class n wanted row stack i' i (omega arith) here.placed
 
     pub moved_one : {next : ℕ} {row' : List ℕ} {stack' : List (List ℕ)} → next ≡ get_or row i 0 + 1
-        → Completed start end class n wanted row i next row' stack' true → Moved start end class n wanted row₀ row' stack' (i + 1)
+        → Completed start end class n wanted row i next row' stack' true → Moved start end class n wanted row₀ row' stack' (Some i)
     moved_one {next} {row'} {stack'} from done =
         let d = subst (λ x. Completed start end class n wanted row i x row' stack' true) from done in
-        let only : (k : ℕ) → k + 1 ≡ i + 1 → i ≡ k = λ k e. omega arith in
         record {
-          reach = omega (arith, here.far);
           empty = (placed_less start end class n wanted row' stack' i 0 (omega arith) d.placed).fronts;
-          same = λ k e. subst (λ x. take x row' ≡ take x row₀) (only k e) (d.same ∙ one_same);
-          placed = λ k e. d.found refl;
-          grows = λ k e. subst (λ x. take (length wanted) (departed start end n row₀ x) ≡ take (length wanted) row') (only k e)
-              (ap (take (length wanted)) (sym one_departed) ∙ d.grows refl);
-          misses = λ j l k. here.misses j (omega arith) k;
+          answers = record {
+            inside = omega (arith, here.far);
+            same = d.same ∙ one_same;
+            placed = d.found refl;
+            grows = ap (take (length wanted)) (sym one_departed) ∙ d.grows refl;
+            misses = λ j l k. here.misses j (omega arith) k;
+          };
         }
 
     pub trying_next : {next : ℕ} {row' : List ℕ} {stack' : List (List ℕ)} → next ≡ get_or row i 0 + 1
@@ -119,10 +112,15 @@ module _ {start end number : ℕ → ℕ} {n : ℕ} {numbers row : List ℕ} {st
   }
 
   -- no candidate is left
-  pub unmatched_end : n ≤ c → p < length numbers → Matched start end number n numbers row stack false
-  unmatched_end l k = spoilt (here.whole
-      ∙ ap (λ cs. matches (ring start end) number (push [] (take p row)) cs (drop p numbers)) (below_past n c l)
-      ∙ ap (λ xs. matches (ring start end) number (push [] (take p row)) [] xs) (drop_more numbers p 0 k))
+  pub matched_end : n ≤ c → Matched start end number n numbers row stack (eqb p (length numbers))
+  matched_end l =
+      let is = λ (r : Bool). Matched start end number n numbers row stack r in
+      elim (cases_eq p (length numbers)) [
+        | inl e ↦ subst is (sym (eq-eqb p (length numbers) e)) (matched_all (omega arith))
+        | inr ne ↦ subst is (sym (ne_eqb p (length numbers) ne)) (spoilt (here.whole
+            ∙ ap (λ cs. matches (ring start end) number (push [] (take p row)) cs (drop p numbers)) (below_past n c l)
+            ∙ ap (λ xs. matches (ring start end) number (push [] (take p row)) [] xs) (drop_more numbers p 0 (omega (arith, here.far)))))
+      ]
 
   -- the candidate is the link sought
   module _ (l : c < n) (k : p < length numbers) (hit : number c ≡ get_or numbers p 0) where

@@ -9,11 +9,12 @@ use Rattle.cheapest.specs.Trees.{Follows, NoneFollows}
 use Rattle.cheapest.specs.Plans.{graph_of, mark_of, first_of}
 use Rattle.cheapest.specs.Positions.{plan_of, is_on, row_of, CheapestIn, Begins, Steps, Stops}
 use Rattle.cheapest.specs.Scans.{Fronts, Filled}
+use Rattle.cheapest.specs.Runs.{row_in}
 use Rattle.cheapest.specs.declared.candidates.Candidates.{Candidates}
 use Rattle.cheapest.specs.declared.enumeration.Rows.{Rows}
 use Rattle.cheapest.specs.Candidates.{start_of, end_of, class_of, number_of}
 use Rattle.cheapest.proofs.Joining.{tree_size, first_begins, joined_size}
-use Rattle.cheapest.proofs.RowTests.{passes, passes_cheapest, cheapest_passes}
+use Rattle.cheapest.proofs.RowTests.{passes_cheapest, cheapest_passes}
 use Rattle.cheapest.proofs.Standings.{Standing, first_standing, first_at}
 
 pub standing : (rows : Rows) → Standing rows.list rows.walk.at rows.walk.labels rows.size rows.wanted rows.row
@@ -50,7 +51,7 @@ Owed list at stack size wanted row on = record {
   levels : (j : ℕ) → j < size → class_of list (get_or at j 0) ≡ get_or wanted j 0;
   shows : (j : ℕ) → j < size → number_of list (get_or at j 0) ≡ get_or row j 0;
   fronts : Fronts (start_of list) (end_of list) at stack size;
-  passes : passes list (take size row) ≡ true;
+  passes : row_in list (take size row) ≡ true;
   begins : AtFirst list size row on;
   joins : IsJoined list size on;
 }
@@ -146,12 +147,12 @@ module _ (rows : Rows) (r : List ℕ) (c : CheapestIn (plan_of rows) r) where
       sym (get_or-map w r j 0 0 l) ∙ ap (λ xs. get_or xs j 0) (cheapest_passes rows.list r c).1
       ∙ get_or-map w f j 0 0 (omega (arith, rows.whole, listed_size)) ∙ sym (rows.wants j (omega (arith, listed_size)))
 
-  pub listed_passes : passes rows.list r ≡ true
+  pub listed_passes : row_in rows.list r ≡ true
   listed_passes = (cheapest_passes rows.list r c).0
 
 -- and the other way round
 pub passing_listed : (rows : Rows) (r : List ℕ) → rows.size + 1 ≡ (plan_of rows).sites → length r ≡ rows.size
-    → ((j : ℕ) → j < length r → mark_of (plan_of rows) (get_or r j 0) ≡ get_or rows.wanted j 0) → passes rows.list r ≡ true → CheapestIn (plan_of rows) r
+    → ((j : ℕ) → j < length r → mark_of (plan_of rows) (get_or r j 0) ≡ get_or rows.wanted j 0) → row_in rows.list r ≡ true → CheapestIn (plan_of rows) r
 passing_listed rows r joined size marks ok =
     let w = mark_of (plan_of rows) in
     let f = first_of (plan_of rows) in

@@ -2,8 +2,8 @@
 -- prefixes, the marks that are wanted. What it stands on is the row of a cheapest tree if there is one; a
 -- search that found the next row of the wanted marks stands on the row that follows, and a search that
 -- found none shows that none follows.
-use Rattle.std.proofs.Common.{◌≡◌, ℕ, ◌+◌, ◌<◌, ◌≤◌, Bool, true, List, [], ◌∷◌, map, length, get_or, take, drop, sym, refl, ap, ◌∙◌, subst, inl, inr, arith}
-use Rattle.std.proofs.lemmas.List.{ext_get_or, length-map, length-take-le, get_or-map, get_or-take, take-take, take_all}
+use Rattle.std.proofs.Common.{◌≡◌, ℕ, ◌+◌, ◌<◌, ◌≤◌, Bool, true, List, [], ◌∷◌, ◌++◌, map, length, get_or, take, drop, sym, refl, ap, ◌∙◌, subst, inl, inr, arith}
+use Rattle.std.proofs.lemmas.List.{ext_get_or, get_or_append_left, length-append, length-drop, length-map, length-take-le, get_or-map, get_or-take, take-take, take_all}
 use Rattle.std.proofs.lemmas.Bool.{cases_lt}
 use Rattle.weights.specs.Amounts.{numbers}
 use Rattle.forests.specs.Lists.{In}
@@ -14,7 +14,8 @@ use Rattle.forests.proofs.Completion.{picks_within}
 use Rattle.cheapest.specs.Completions.{departs, Good}
 use Rattle.cheapest.specs.Trees.{Cheapest, Follows, NoneFollows}
 use Rattle.cheapest.specs.Plans.{graph_of, mark_of, first_of}
-use Rattle.cheapest.specs.Scans.{ring, grown, departed, Fronts, Placed, Moved, Matched, Filled}
+use Rattle.cheapest.specs.Scans.{ring, grown, departed, Fronts, Placed, Departs, Matched, Filled}
+use Rattle.cheapest.specs.Runs.{row_in}
 use Rattle.cheapest.specs.declared.candidates.Candidates.{Candidates}
 use Rattle.cheapest.specs.Candidates.{start_of, end_of, class_of, number_of}
 use Rattle.cheapest.proofs.Bases.{no_longer}
@@ -25,7 +26,7 @@ use Rattle.cheapest.proofs.Growth.{in_below_from}
 use Rattle.cheapest.proofs.Numbers.{numbers_lawful}
 use Rattle.cheapest.proofs.Listed.{key_of, plan_fits}
 use Rattle.cheapest.proofs.Translation.{first_same, departs_same}
-use Rattle.cheapest.proofs.RowTests.{passes, passes_best, best_passes, first_best, passes_cheapest, cheapest_passes}
+use Rattle.cheapest.proofs.RowTests.{passes_best, best_passes, first_best, passes_cheapest, cheapest_passes}
 
 pub record Standing (list : Candidates) (at : List ℕ) (stack : List (List ℕ)) (size : ℕ) (wanted row : List ℕ) : Type 0 where
   pub small : size < 64
@@ -38,7 +39,7 @@ pub record Standing (list : Candidates) (at : List ℕ) (stack : List (List ℕ)
   pub levels : (j : ℕ) → j < size → class_of list (get_or at j 0) ≡ get_or wanted j 0
   pub shows : (j : ℕ) → j < size → number_of list (get_or at j 0) ≡ get_or row j 0
   pub fronts : Fronts (start_of list) (end_of list) at stack size
-  pub passing : passes list (take size row) ≡ true
+  pub passing : row_in list (take size row) ≡ true
 
 -- two fronts of lists, place by place
 pub same_fronts : (n : ℕ) (xs ys : List ℕ) → n ≤ length xs → length ys ≡ n → ((j : ℕ) → j < n → get_or xs j 0 ≡ get_or ys j 0) → take n xs ≡ ys
@@ -92,6 +93,12 @@ module _ {list : Candidates} {at : List ℕ} {stack : List (List ℕ)} {size : �
 
   pub row_level : map (mark_of list.plan) (take size row) ≡ map (mark_of list.plan) (first_of list.plan)
   row_level = row_wanted ∙ sym marks_first
+
+  -- so have its candidates
+  pub classes_first : map (class_of list) (take size at) ≡ map (mark_of list.plan) (first_of list.plan)
+  classes_first =
+      classes_marks list (take size at) (small_front list at size (omega (arith, here.small, here.wide_at)) here.inside)
+      ∙ ap (map (mark_of list.plan)) row_shown ∙ row_level
 
   pub row_cheapest : size + 1 ≡ list.plan.sites → Cheapest (graph_of list.plan) numbers (mark_of list.plan) (take size row)
   row_cheapest joined = passes_cheapest list (omega (arith, here.whole)) (take size row) here.passing row_level
@@ -153,40 +160,42 @@ module _ {list : Candidates} {at : List ℕ} {stack : List (List ℕ)} {size : �
         length-map Q (number_of list),
       )
 
-  module _ (goal : List ℕ) (aim : goal ≡ take size wanted) {at' : List ℕ} {stack' : List (List ℕ)} {r : ℕ}
-      (moved : Moved (start_of list) (end_of list) (class_of list) list.count goal at at' stack' r) where
+  module _ (goal : List ℕ) (aim : goal ≡ take size wanted) where
     goal_length : length goal ≡ size
     goal_length = ap length aim ∙ length-take-le size wanted (omega (arith, here.small, here.wide_wanted))
 
     row_goal : map (mark_of list.plan) (take size row) ≡ goal
     row_goal = row_wanted ∙ sym aim
 
-    -- no departure at or after place r is good
-    not_good : (j : ℕ) → r ≤ j → j < size → Good (graph_of list.plan) numbers (mark_of list.plan) (take size row) j → ⊥
-    not_good j l k good = moved.misses j l (omega (arith, goal_length)) (marks_departed j k ∙ good ∙ row_goal)
+    -- a departure that misses the wanted classes is not good
+    not_good : (j : ℕ) → j < size → (map (class_of list) (departed (start_of list) (end_of list) list.count at j) ≡ goal → ⊥)
+        → Good (graph_of list.plan) numbers (mark_of list.plan) (take size row) j → ⊥
+    not_good j l none good = none (marks_departed j l ∙ good ∙ row_goal)
 
-    pub none_follows : r ≡ 0 → size + 1 ≡ list.plan.sites → NoneFollows (graph_of list.plan) numbers (mark_of list.plan) (take size row)
-    none_follows zero-r joined =
+    pub none_follows : ((j : ℕ) → j < length goal → map (class_of list) (departed (start_of list) (end_of list) list.count at j) ≡ goal → ⊥)
+        → size + 1 ≡ list.plan.sites → NoneFollows (graph_of list.plan) numbers (mark_of list.plan) (take size row)
+    none_follows none joined =
         let long : length (take size row) ≡ size = length-take-le size row (omega (arith, here.small, here.wide_row)) in
         (successor numbers numbers_lawful (graph_of list.plan) (plan_fits list.plan) (mark_of list.plan) (take size row) (row_cheapest joined)).1
-        (λ j l. not_good j (omega arith) (omega (arith, long)))
+        (λ j l. let k : j < size = omega (arith, long) in not_good j k (none j (omega (arith, goal_length))))
 
     -- the search stands on the departure at place i
-    module _ (i : ℕ) (at-r : i + 1 ≡ r) (wide' : length at' ≡ 64) where
+    module _ {at' : List ℕ} {stack' : List (List ℕ)} {i : ℕ} (moved : Departs (start_of list) (end_of list) (class_of list) list.count goal at at' stack' i)
+        (wide' : length at' ≡ 64) where
       i_small : i < size
-      i_small = omega (arith, moved.reach, goal_length)
+      i_small = omega (arith, moved.inside, goal_length)
 
       departed_is : departed (start_of list) (end_of list) list.count at i ≡ take size at'
       departed_is =
           let Q = departed (start_of list) (end_of list) list.count at i in
           sym (take_all size Q (departed_short i i_small))
-          ∙ subst (λ m. take m Q ≡ take m at') goal_length (moved.grows i at-r)
+          ∙ subst (λ m. take m Q ≡ take m at') goal_length moved.grows
 
       found_placed : Placed (start_of list) (end_of list) (class_of list) list.count goal at' stack' size
-      found_placed = subst (λ m. Placed (start_of list) (end_of list) (class_of list) list.count goal at' stack' m) goal_length (moved.placed i at-r)
+      found_placed = subst (λ m. Placed (start_of list) (end_of list) (class_of list) list.count goal at' stack' m) goal_length moved.placed
 
-      pub found_inside : (j : ℕ) → j < size → get_or at' j 0 < list.count
-      found_inside = found_placed.inside
+      pub found_inside : (j : ℕ) → j < size → get_or at' j 0 < 512
+      found_inside j l = omega (arith, found_placed.inside j l, list.room)
 
       found_good : Good (graph_of list.plan) numbers (mark_of list.plan) (take size row) i
       found_good =
@@ -203,7 +212,8 @@ module _ {list : Candidates} {at : List ℕ} {stack : List (List ℕ)} {size : �
       found_follows joined =
           let long : length (take size row) ≡ size = length-take-le size row (omega (arith, here.small, here.wide_row)) in
           (successor numbers numbers_lawful (graph_of list.plan) (plan_fits list.plan) (mark_of list.plan) (take size row) (row_cheapest joined)).0
-          i (omega (arith, long, i_small)) found_good (λ j l k. not_good j (omega arith) (omega (arith, long)))
+          i (omega (arith, long, i_small)) found_good
+          (λ j l k. let m : j < size = omega (arith, long) in not_good j m (moved.misses j l (omega (arith, goal_length))))
 
       -- the links that changed are read out
       module _ (row' : List ℕ) (wide-row' : length row' ≡ 64) (keeps : (j : ℕ) → j < i → get_or row' j 0 ≡ get_or row j 0)
@@ -211,7 +221,7 @@ module _ {list : Candidates} {at : List ℕ} {stack : List (List ℕ)} {size : �
         next_shows : (j : ℕ) → j < size → number_of list (get_or at' j 0) ≡ get_or row' j 0
         next_shows j l = elim (cases_lt j i) [
           | inl k ↦
-              ap (number_of list) (sym (get_or-take i at' j 0 k) ∙ ap (λ xs. get_or xs j 0) (moved.same i at-r) ∙ get_or-take i at j 0 k)
+              ap (number_of list) (sym (get_or-take i at' j 0 k) ∙ ap (λ xs. get_or xs j 0) moved.same ∙ get_or-take i at j 0 k)
               ∙ here.shows j l ∙ sym (keeps j k)
           | inr k ↦ sym (writes j (k, l))
         ]
@@ -260,14 +270,14 @@ module _ {list : Candidates} {at : List ℕ} {stack : List (List ℕ)} {size : �
         levels = λ j l. list.classes (get_or at' j 0) (placed.inside j l) ∙ ap (mark_of list.plan) (placed.classes j l) ∙ marks j l;
         shows = λ j l. placed.classes j l ∙ sym (same j l);
         fronts = placed.fronts;
-        passing = ap (passes list) is ∙ sym found.answers;
+        passing = ap (row_in list) is ∙ sym found.answers;
       }
 
   -- the row is found again
   pub again_standing : (given : List ℕ) {at' : List ℕ} {stack' : List (List ℕ)} {r : Bool} → given ≡ take size row
       → Matched (start_of list) (end_of list) (number_of list) list.count given at' stack' r → length at' ≡ 64 → Standing list at' stack' size wanted row
   again_standing given {at'} {stack'} {r} e found wide =
-      let yes-r : r ≡ true = found.answers ∙ ap (passes list) e ∙ here.passing in
+      let yes-r : r ≡ true = found.answers ∙ ap (row_in list) e ∙ here.passing in
       let at_j : (j : ℕ) → j < size → get_or row j 0 ≡ get_or given j 0 = λ j l. sym (get_or-take size row j 0 l) ∙ ap (λ xs. get_or xs j 0) (sym e) in
       other_standing given row (subst (Matched (start_of list) (end_of list) (number_of list) list.count given at' stack') yes-r found)
       (ap length e ∙ length-take-le size row (omega (arith, here.small, here.wide_row)))
@@ -301,7 +311,7 @@ module _ (list : Candidates) {at : List ℕ} {stack : List (List ℕ)} {size : �
     levels = λ j l. sym (classes j l);
     shows = λ j l. sym (links j l);
     fronts = filled.fronts;
-    passing = ap (passes list) first_is ∙ best_passes list (first_of list.plan) (first_best list);
+    passing = ap (row_in list) first_is ∙ best_passes list (first_of list.plan) (first_best list);
   }
 
 -- An empty row has the labels of an empty prefix.
@@ -310,11 +320,13 @@ fronts_none start end row stack h j u l =
     let e : j ≡ 0 = omega (arith, l.0) in
     ap (λ k. get_or (get_or stack k []) u 0) e ∙ h u l.1 ∙ ap (λ k. find start end (push [] (take k row)) u) (sym e)
 
--- The links that were looked for are read out again.
-pub read_again : (list : Candidates) (given : List ℕ) {at : List ℕ} {stack : List (List ℕ)} (out : List ℕ) (size : ℕ)
-    → Matched (start_of list) (end_of list) (number_of list) list.count given at stack true → length given ≡ size
-    → ((j : ℕ) → (0 ≤ j) × (j < size) → get_or out j 0 ≡ number_of list (get_or at j 0)) → (j : ℕ) → j < size → get_or out j 0 ≡ get_or given j 0
-read_again list given out size found long writes j l = writes j (omega arith, l) ∙ (found.placed refl).classes j (omega arith)
+-- The row with other links written over its front.
+pub written_over : (n k : ℕ) (row given put : List ℕ) → put ≡ given → length given ≡ n → k ≡ n → n ≤ length row
+    → (length (put ++ drop k row) ≡ length row) × ((j : ℕ) → j < n → get_or (put ++ drop k row) j 0 ≡ get_or given j 0)
+written_over n k row given put e long same room = (
+    omega (arith, length-append put (drop k row), length-drop k row, ap length e),
+    (λ j l. get_or_append_left put (drop k row) 0 j (omega (arith, ap length e)) ∙ ap (λ xs. get_or xs j 0) e),
+  )
 
 pub placed_none : (list : Candidates) (row : List ℕ) (stack : List (List ℕ)) → ((u : ℕ) → u < 64 → get_or (get_or stack 0 []) u 0 ≡ u)
     → Placed (start_of list) (end_of list) (λ _. 0) list.count [] row stack 0

@@ -18,12 +18,13 @@ use Rattle.cheapest.specs.Plans.{graph_of, mark_of, ranked_of}
 use Rattle.cheapest.specs.Positions.{CheapestIn}
 use Rattle.cheapest.specs.Scans.{ring, Crosses}
 use Rattle.cheapest.specs.StandIns.{StandsIn}
+use Rattle.cheapest.specs.Runs.{row_in}
 use Rattle.cheapest.specs.declared.candidates.Candidates.{Candidates}
 use Rattle.cheapest.specs.Candidates.{start_of, end_of, class_of, number_of}
 use Rattle.cheapest.proofs.Listed.{key_of, plan_fits, candidate_in}
 use Rattle.cheapest.proofs.Numbers.{numbers_lawful}
 use Rattle.cheapest.proofs.Orders.{ordered_take, ordered_append, ordered_rest, ordered_across}
-use Rattle.cheapest.proofs.RowTests.{passes, free_passes}
+use Rattle.cheapest.proofs.RowTests.{free_passes}
 use Rattle.cheapest.proofs.Sorting.{sorted_in, in_sorted, length_sorted}
 use Rattle.cheapest.proofs.Substitutes.{indep_without, substitute_stands}
 use Rattle.cheapest.proofs.Translation.{map_push, ring_same}
@@ -70,7 +71,7 @@ module _ (list : Candidates) (row : List ℕ) (cheapest : CheapestIn list.plan r
       (subst (Indep (ClosesRing g)) (around q row here) (tree_indep g (plan_fits list.plan) row cheapest.row.tree))
 
   -- the rest passes the test for rows
-  pub rest_passes : passes list (leaving q row) ≡ true
+  pub rest_passes : row_in list (leaving q row) ≡ true
   rest_passes =
       let g = graph_of list.plan in
       let key = key_of list.plan in

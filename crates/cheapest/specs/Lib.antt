@@ -8,6 +8,7 @@ pub mod Places
 pub mod Plans
 pub mod Candidates
 pub mod Scans
+pub mod Runs
 pub mod Positions
 pub mod StandIns
 pub mod Kept

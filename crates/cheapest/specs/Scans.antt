@@ -1,6 +1,6 @@
 -- Runs over candidates that are numbered in rank order. Candidate c has the ends `start c` and `end c`,
 -- and a row is a list of candidates. There are n candidates.
-use Rattle.std.specs.Prelude.{◌≡◌, ℕ, ◌+◌, ◌<◌, ◌≤◌, Bool, true, false, cond, not, ◌&&◌, List, [], ◌∷◌, ◌++◌, map, length, take, drop, ◌==◌, ◌≢◌, slice_index, slice_index_or}
+use Rattle.std.specs.Prelude.{◌≡◌, ℕ, ◌+◌, ◌<◌, ◌≤◌, Bool, true, false, cond, not, ◌&&◌, Option, MatchOption, List, [], ◌∷◌, ◌++◌, map, length, get_or, take, drop, ◌==◌, ◌≢◌, slice_index, slice_index_or}
 use Rattle.forests.specs.Closures.{push, picks}
 use Rattle.forests.specs.Labels.{find, spanned, below}
 
@@ -45,15 +45,20 @@ pub record Completed (start end class : ℕ → ℕ) (n : ℕ) (wanted row₀ : 
   pub grows : r ≡ true → take (length wanted) (grown start end n (take i row₀) first) ≡ take (length wanted) row
   pub misses : r ≡ false → map class (grown start end n (take i row₀) first) ≢ wanted
 
--- What a search makes of row₀ that tries its departures from the last place on: r is one more than the
--- place of the first that has the wanted classes, and 0 if none has. The new row begins with it.
-pub record Moved (start end class : ℕ → ℕ) (n : ℕ) (wanted row₀ row : List ℕ) (stack : List (List ℕ)) (r : ℕ) : Type 0 where
-  pub reach : r ≤ length wanted
+-- The new row begins with the departure of row₀ at place i, the last that has the wanted classes.
+pub record Departs (start end class : ℕ → ℕ) (n : ℕ) (wanted row₀ row : List ℕ) (stack : List (List ℕ)) (i : ℕ) : Type 0 where
+  pub inside : i < length wanted
+  pub same : take i row ≡ take i row₀
+  pub placed : Placed start end class n wanted row stack (length wanted)
+  pub grows : take (length wanted) (departed start end n row₀ i) ≡ take (length wanted) row
+  pub misses : (j : ℕ) → i < j → j < length wanted → map class (departed start end n row₀ j) ≢ wanted
+
+-- What a search makes of row₀ that tries its departures from the last place on: r is the place of the first
+-- that has the wanted classes, with which the new row begins, if there is one.
+pub record Moved (start end class : ℕ → ℕ) (n : ℕ) (wanted row₀ row : List ℕ) (stack : List (List ℕ)) (r : Option ℕ) : Type 0 where
   pub empty : Fronts start end row stack 0
-  pub same : (i : ℕ) → i + 1 ≡ r → take i row ≡ take i row₀
-  pub placed : (i : ℕ) → i + 1 ≡ r → Placed start end class n wanted row stack (length wanted)
-  pub grows : (i : ℕ) → i + 1 ≡ r → take (length wanted) (departed start end n row₀ i) ≡ take (length wanted) row
-  pub misses : (j : ℕ) → r ≤ j → j < length wanted → map class (departed start end n row₀ j) ≢ wanted
+  pub answers : MatchOption r ((j : ℕ) → j < length wanted → map class (departed start end n row₀ j) ≢ wanted)
+      (Departs start end class n wanted row₀ row stack)
 
 -- What a run makes of the row that looks for the candidates of the given link numbers: r says whether they
 -- are a row; the new row begins with them.

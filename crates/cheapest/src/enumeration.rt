@@ -1,11 +1,9 @@
 //! The state of a walk through the rows of all cheapest trees.
 
-ghost use Rattle.std.specs.Prelude.{◌≡◌, ℕ, ◌+◌, ◌<◌, ◌≤◌, true, false, [], length, take, slice_index, slice_index_or};
-ghost use Rattle.forests.specs.Closures.{push};
-ghost use Rattle.forests.specs.Labels.{find, below};
+ghost use Rattle.std.specs.Prelude.{◌≡◌, ℕ, ◌+◌, ◌<◌, true, false, length, take, slice_index};
 ghost use Rattle.cheapest.specs.Plans.{mark_of, first_of};
-ghost use Rattle.cheapest.specs.Scans.{ring, matches};
-ghost use Rattle.cheapest.specs.Candidates.{start_of, end_of, class_of, number_of};
+ghost use Rattle.cheapest.specs.Runs.{row_in, FrontsIn};
+ghost use Rattle.cheapest.specs.Candidates.{class_of, number_of};
 
 use crate::candidates::Candidates;
 use crate::walk::Walk;
@@ -20,7 +18,7 @@ pub struct Rows {
     pub(crate) size: usize,
     /// The marks of the first row, which are those of every row of the list.
     pub(crate) wanted: [u16; 64],
-    /// The row in link numbers. Before the list it is the first row already.
+    /// The row in link numbers. Before the list it is the first row already, so no Option holds it: it is there either way.
     pub(crate) row: [u16; 64],
     pub(crate) on: bool,
     ghost small: { size < 64 },
@@ -31,8 +29,8 @@ pub struct Rows {
     ghost inside: { (j : ℕ) → j < size → slice_index walk.at j < list.count },
     ghost levels: { (j : ℕ) → j < size → class_of list (slice_index walk.at j) ≡ slice_index wanted j },
     ghost shows: { (j : ℕ) → j < size → number_of list (slice_index walk.at j) ≡ slice_index row j },
-    ghost fronts: { (j u : ℕ) → (j ≤ size) × (u < 64) → slice_index (slice_index_or walk.labels j []) u ≡ find (start_of list) (end_of list) (push [] (take j walk.at)) u },
-    ghost passes: { matches (ring (start_of list) (end_of list)) (number_of list) [] (below list.count) (take size row) ≡ true },
+    ghost fronts: { FrontsIn list walk size },
+    ghost passes: { row_in list (take size row) ≡ true },
     ghost begins: { (j : ℕ) → (on ≡ false) × (j < size) → slice_index row j ≡ slice_index (first_of list.plan) j },
     ghost joins: { on ≡ true → size + 1 ≡ list.plan.sites },
 }

@@ -5,21 +5,24 @@ ghost use Rattle.cheapest.specs.Kept.{kept_on, kept_row};
 ghost use Rattle.cheapest.specs.Positions.{is_on, row_of};
 
 use crate::enumeration::Rows;
-use crate::kept::Kept;
+use crate::kept::{Kept, Links};
 
 impl Kept {
     /// Whether the walk was on a row.
     pub fn is_on(&self) -> bool
         ensures { result ≡ kept_on self.now }
     {
-        self.on
+        self.row.is_some()
     }
 
     /// The row that the walk was on, in link numbers; before the list it is empty.
     pub fn row(&self) -> &[u16]
         ensures { result.now ≡ kept_row self.now }
     {
-        &self.row[0..self.size]
+        match &self.row {
+            Some(links) => &links.numbers[0..links.size],
+            None => &[],
+        }
     }
 }
 
@@ -29,11 +32,12 @@ impl Rows {
         ensures on { kept_on result ≡ is_on self.now }
         ensures row { kept_row result ≡ row_of self.now }
     {
-        let size = if self.on { self.size } else { 0 };
+        let links = Links {
+            numbers: self.row,
+            size: self.size,
+        };
         Kept {
-            row: self.row,
-            size,
-            on: self.on,
+            row: self.on.then_some(links),
         }
     }
 }

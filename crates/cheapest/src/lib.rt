@@ -21,6 +21,7 @@
 #![tactic(auto)]
 
 mod candidates;
+mod choosing;
 mod closing;
 mod completing;
 mod enumeration;
@@ -33,9 +34,8 @@ pub mod plan;
 mod reading;
 mod searching;
 mod seeking;
-mod spanning;
+mod showing;
 mod statements;
-mod stepping;
 mod substituting;
 mod walk;
 

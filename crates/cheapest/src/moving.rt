@@ -1,14 +1,14 @@
 //! Walking through the rows of all cheapest trees.
 
 ghost use Rattle.std.specs.Prelude.{◌≡◌, true, false, Decides};
-ghost use Rattle.forests.specs.Graphs.{SitesJoined};
-ghost use Rattle.cheapest.specs.Plans.{graph_of};
-ghost use Rattle.cheapest.specs.Positions.{plan_of, is_on, row_of, CheapestIn, HasTree, Steps, Stops, SamePlace};
+ghost use Rattle.cheapest.specs.Positions.{plan_of, is_on, row_of, CheapestIn, Steps, Stops, SamePlace};
 
+use crate::candidates::Candidates;
 use crate::enumeration::Rows;
 use crate::listing::list_candidates;
 use crate::plan::Plan;
-use crate::spanning::is_tree;
+use crate::reading::read_row;
+use crate::walk::Walk;
 
 impl Rows {
     /// A walk that stands before the full list of the plan. The cost is two runs over the candidates.
@@ -16,53 +16,28 @@ impl Rows {
         ensures plan { plan_of result ≡ plan }
         ensures before { is_on result ≡ false }
     {
-        let list = list_candidates(plan);
-        Rows::before(list)
+        Rows::before(list_candidates(plan))
     }
 
-    /// Whether the usable links join all sites, so that there is a spanning tree.
-    pub fn joined(&self) -> bool
-        ensures joined { Decides result (SitesJoined (graph_of (plan_of self.now))) }
-        ensures tree { Decides result (HasTree (plan_of self.now)) }
+    /// A walk that stands before the full list of the candidates.
+    fn before(list: Candidates) -> Rows
+        ensures list { result.list ≡ list }
+        ensures before { is_on result ≡ false }
     {
-        is_tree(&self.list.plan, self.size)
-    }
-
-    /// Whether the walk is on a row.
-    pub fn is_on(&self) -> bool
-        ensures { result ≡ is_on self.now }
-    {
-        self.on
-    }
-
-    /// The row that the walk is on, in link numbers; before the list it is empty.
-    pub fn row(&self) -> &[u16]
-        ensures { result.now ≡ row_of self.now }
-    {
-        let size = if self.on { self.size } else { 0 };
-        &self.row[0..size]
-    }
-
-    /// The plan that is walked through.
-    pub(crate) fn plan(&self) -> &Plan
-        ensures { result.now ≡ plan_of self.now }
-    {
-        &self.list.plan
-    }
-
-    /// Ends the walk, and gives the plan back.
-    pub(crate) fn into_plan(self) -> Plan
-        ensures { result ≡ plan_of self }
-    {
-        let Rows {
+        let mut walk = Walk::empty();
+        let size = walk.first_row(&list, 0);
+        let mut wanted = [0; 64];
+        read_row(&list, &walk.at, 0, size, &mut wanted, |c| c.class);
+        let mut row = [0; 64];
+        read_row(&list, &walk.at, 0, size, &mut row, |c| c.number);
+        Rows {
             list,
-            walk: _,
-            size: _,
-            wanted: _,
-            row: _,
-            on: _,
-        } = self;
-        list.plan
+            walk,
+            size,
+            wanted,
+            row,
+            on: false,
+        }
     }
 
     /// Moves to the first row, or to the row that follows; whether there is one. If not, the walk stays
@@ -73,10 +48,20 @@ impl Rows {
         ensures ends { result ≡ false → Stops self.old }
         ensures stays { result ≡ false → SamePlace self.old self.new }
     {
-        if self.on {
-            return self.to_next();
+        if !self.on {
+            self.on = self.joined();
+            return self.on;
         }
-        self.to_first()
+        let wanted = &self.wanted;
+        let next = self.walk.next_row(&self.list, &wanted[0..self.size]);
+        let Some(i) = next else {
+            let row = &self.row;
+            self.walk.place(&self.list, &row[0..self.size]);
+            return false;
+        };
+        let (list, walk) = (&self.list, &self.walk);
+        read_row(list, &walk.at, i, self.size, &mut self.row, |c| c.number);
+        true
     }
 
     /// Moves to the given row if it is in the full list; whether it is. If not, the walk stays where it is.
@@ -89,7 +74,14 @@ impl Rows {
         if !self.is_level(row) {
             return false;
         }
-        self.move_to(row)
+        if !self.walk.place(&self.list, row) {
+            let here = &self.row;
+            self.walk.place(&self.list, &here[0..self.size]);
+            return false;
+        }
+        self.row[0..self.size].copy_from_slice(row);
+        self.on = true;
+        true
     }
 
     /// Goes back to before the list, where the walk began.
@@ -98,7 +90,7 @@ impl Rows {
         ensures before { is_on self.new ≡ false }
     {
         if self.on {
-            self.rewind();
+            *self = Rows::before(self.list);
         }
     }
 }

@@ -16,7 +16,7 @@ pub first_row-size-requires : goal.first_row-size-requires
 first_row-size-requires c =
     let list = c.args.list.now in
     let walk = c.empty-walk.result in
-    let after = c.choose.new.walk in
+    let after = c.choose.new.self in
     let e = c.choose.ensures in
     let wide = walk.wide in
     record {
@@ -33,8 +33,9 @@ pub returns : goal.returns
 returns c =
     let list = c.args.list.now in
     let walk = c.empty-walk.result in
-    let after = c.choose.new.walk in
+    let after = c.choose.new.self in
     c.total.ensures
     ∙ ap (λ (xs : List ℕ). sum_of numbers (map (class_of list) xs))
-    (c.first_row-size.ensures.whole
+    (ap (λ (n : ℕ). take n c.first_row-size.new.self.at) (omega arith)
+    ∙ c.first_row-size.ensures.whole
     ∙ ap (λ (front : List ℕ). grown (start_of list) (end_of list) list.count front 0) (one_taken walk.at after.at c.args.c walk.wide c.choose.ensures.row))

@@ -1,4 +1,4 @@
-use Rattle.std.proofs.Common.{arith, lit<}
+use Rattle.std.proofs.Common.{rules, arith, lit<}
 use Rattle.cheapest.proofs.Filling.{picks_short}
 use Rattle.cheapest.proofs.Listed.{ends_fit}
 use Rattle.cheapest.proofs.Standings.{placed_none}
@@ -18,7 +18,7 @@ first_row-size-requires c =
 
 pub invariant_of-result : goal.invariant_of-result
 invariant_of-result c =
-    let classes = c.read_classes.ensures in
-    let links = c.read_links.ensures in
-    first_owed c.args.list c.first_row-size.ensures c.first_row-size.new.walk.wide c.read_classes.new.out c.read_links.new.out
-    classes.len links.len classes.writes (λ j l. links.writes j (omega arith, l))
+    let classes = c.read_row.ensures in
+    let links = c.read_row-2.ensures in
+    first_owed c.args.list c.first_row-size.ensures c.first_row-size.new.self.wide c.read_row.new.out c.read_row-2.new.out
+    classes.len links.len (λ j l. let h = classes.writes j (omega arith, l) in search rules) (λ j l. let h = links.writes j (omega arith, l) in search rules)
