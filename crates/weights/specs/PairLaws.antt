@@ -1,20 +1,16 @@
 -- The scale of pairs keeps the laws that its two sides keep.
 -- A comparison of pairs is one of three: the first sides are equal and the second decide, or the first are less, or
 -- they are more. Each law is proved by these cases.
-use Rattle.std.specs.Prelude.{◌≡◌, Bool, true, false, cond, ◌&&◌, ◌⊎◌, refl}
+use Rattle.std.specs.Prelude.{◌≡◌, Bool, true, false, ◌⊎◌, refl}
 use Rattle.std.proofs.Common.{sym, ap, ◌∙◌, inl, inr, ⊎_elim}
 use Rattle.std.proofs.lemmas.Bool.{both_ways, cases_Bool}
 use Rattle.weights.specs.Scales.{Scale, Lawful}
-use Rattle.weights.specs.Amounts.{pairs}
+use Rattle.weights.specs.Amounts.{lexed, pairs}
 use Rattle.weights.specs.Linear.{level, other, below, under}
 
 -- pairs with equal sides are equal
 both_sides : {A B : Type 0} (a b : A × B) → a.0 ≡ b.0 → a.1 ≡ b.1 → a ≡ b
 both_sides a b e f = ap (λ x. (x, a.1)) e ∙ ap (λ y. (b.0, y)) f
-
--- a comparison of pairs from its parts: the first sides one way and the other way, and the second sides
-abbrev lexed : Bool → Bool → Bool → Bool
-lexed p q r = cond (p && q) r p
 
 when_true : (p q r : Bool) → lexed p q r ≡ true → ((p ≡ true) × (q ≡ true) × (r ≡ true)) ⊎ ((p ≡ true) × (q ≡ false))
 when_true true true r e = inl (refl, refl, e)

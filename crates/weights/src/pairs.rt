@@ -1,6 +1,7 @@
 //! The pair of any two weight kinds: the first side decides, and the second where the first sides are equal.
 
 ghost use Rattle.std.specs.Prelude.{◌≡◌, max};
+ghost use Rattle.weights.specs.Amounts.{lexed};
 ghost use Rattle.weights.specs.PairLaws.{pairs_lawful};
 ghost use Rattle.weights.specs.Weighings.{paired};
 ghost use Rattle.std.proofs.Common.{rules};
@@ -8,14 +9,14 @@ ghost use Rattle.std.proofs.Common.{rules};
 use crate::kinds::WeightKind;
 
 /// Two weights, the deciding one first.
-#[derive(Clone, Copy)]
+#[derive(Clone, Copy, PartialEq, Eq, Debug)]
 pub struct Pair<P, Q> {
     pub first: P,
     pub second: Q,
 }
 
 /// The totals of both sides. It has as many weights as its fuller side.
-#[derive(Clone, Copy)]
+#[derive(Clone, Copy, PartialEq, Eq, Debug)]
 pub struct PairTotal<A, B> {
     firsts: A,
     seconds: B,
@@ -37,6 +38,14 @@ impl<A: Copy, B: Copy> PairTotal<A, B> {
     }
 }
 
+/// Whether one pair is at most another: `there` and `back` say whether the first sides are, this way and the other.
+// By hand, since weights of a kind are ordered by their amounts on its scale alone, and no derived order says that.
+fn first_decides(there: bool, back: bool, second: bool) -> bool
+    ensures { result ≡ lexed there back second }
+{
+    if there && back { second } else { there }
+}
+
 impl<P: WeightKind, Q: WeightKind> WeightKind for Pair<P, Q> {
     ghost weighing = { paired P.WeightKind.weighing Q.WeightKind.weighing };
 
@@ -55,11 +64,11 @@ impl<P: WeightKind, Q: WeightKind> WeightKind for Pair<P, Q> {
     ghost few = { Prim.search rules };
 
     fn at_most(&self, other: &Pair<P, Q>) -> bool {
-        if self.first.at_most(&other.first) && other.first.at_most(&self.first) {
-            self.second.at_most(&other.second)
-        } else {
-            self.first.at_most(&other.first)
-        }
+        first_decides(
+            self.first.at_most(&other.first),
+            other.first.at_most(&self.first),
+            self.second.at_most(&other.second),
+        )
     }
 
     fn zero() -> Pair<P, Q> {
@@ -91,12 +100,10 @@ impl<P: WeightKind, Q: WeightKind> WeightKind for Pair<P, Q> {
         first: &PairTotal<P::Total, Q::Total>,
         second: &PairTotal<P::Total, Q::Total>,
     ) -> bool {
-        if P::total_at_most(&first.firsts, &second.firsts)
-            && P::total_at_most(&second.firsts, &first.firsts)
-        {
-            Q::total_at_most(&first.seconds, &second.seconds)
-        } else {
-            P::total_at_most(&first.firsts, &second.firsts)
-        }
+        first_decides(
+            P::total_at_most(&first.firsts, &second.firsts),
+            P::total_at_most(&second.firsts, &first.firsts),
+            Q::total_at_most(&first.seconds, &second.seconds),
+        )
     }
 }
