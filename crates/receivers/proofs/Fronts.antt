@@ -1,7 +1,17 @@
 -- What is left of a passed list, and the list once it is given back.
-use Rattle.std.proofs.Common.{◌≡◌, ℕ, ◌+◌, ◌-◌, List, ◌++◌, length, drop, ap, ◌∙◌, arith}
-use Rattle.std.proofs.lemmas.List.{length-drop, length-append, drop-drop}
+use Rattle.std.proofs.Common.{◌≡◌, ℕ, ◌+◌, ◌-◌, List, ◌++◌, length, drop, sym, ap, ◌∙◌, ⊎_elim, arith}
+use Rattle.std.proofs.lemmas.Bool.{cases_lt}
+use Rattle.std.proofs.lemmas.List.{length-drop, length-append, drop-drop, drop_all}
 use Rattle.receivers.specs.Rules.{with_places_given_back, EndOf}
+
+-- a list without some of its front is its end
+pub end_drop : (n : ℕ) (xs : List ℕ) → EndOf xs (drop n xs)
+end_drop n xs =
+    let l = length-drop n xs in
+    ⊎_elim
+    (λ inside. let left : n ≡ length xs - length (drop n xs) = omega arith in ap (λ k. drop k xs) left)
+    (λ past. drop_all n xs past ∙ sym (drop_all (length xs - length (drop n xs)) xs (omega arith)))
+    (cases_lt n (length xs))
 
 -- an end of an end
 pub end_end : (a b c : List ℕ) → EndOf a b → EndOf b c → EndOf a c

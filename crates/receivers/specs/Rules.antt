@@ -1,11 +1,15 @@
 -- Taking rules. A rule says, from what is held and a row, what is held afterwards if the row is taken.
-use Rattle.std.specs.Prelude.{◌≡◌, ℕ, ◌-◌, Bool, List, [], ◌∷◌, ◌++◌, length, drop, is_some, Option}
+use Rattle.std.specs.Prelude.{◌≡◌, ℕ, ◌-◌, Bool, List, [], ◌∷◌, ◌++◌, length, drop, is_some, Option, nat_le}
 use Rattle.std.specs.Borrow.{GName}
 use Rattle.std.specs.Option.{unwrap_or}
 
 -- from what is held and a row, what is held afterwards; nothing where the row is not taken
 abbrev pub Rule : Type 0
 Rule = List ℕ → List ℕ → Option (List ℕ)
+
+-- whether the row has at most 63 entries, as each row that keeper, tally and text writer take
+abbrev pub few_entries : List ℕ → Bool
+few_entries row = nat_le (length row) 63
 
 -- whether the rule takes the row
 abbrev pub takes : Rule → List ℕ → List ℕ → Bool
@@ -28,8 +32,8 @@ with_places_given_back cells held = held ++ drop (length held) cells
 abbrev pub EndOf : List ℕ → List ℕ → Type 0
 EndOf whole part = part ≡ drop (length whole - length part) whole
 
--- what no call alters of a receiver: its rule and its lender stay, and the places that it has not used are the end of those that
--- it had not used before
+-- what no call alters of a receiver: its rule and its lender stay, and the places that it has not used are the end of
+-- those that it had not used before
 pub record Serves {R : Type 0} (rule_of : R → Rule) (spare_of : R → List ℕ) (lender_of : R → List GName) (before after : R) : Type 0 where
   pub rule : rule_of after ≡ rule_of before
   pub spare : EndOf (spare_of before) (spare_of after)

@@ -1,6 +1,7 @@
 -- The tally's taking rule. It holds the count of rows and then one count for each of the 512 link numbers.
-use Rattle.std.specs.Prelude.{ℕ, ◌+◌, Bool, cond, ◌&&◌, List, [], ◌∷◌, map, length, Some, None, Option, ◌==◌, nat_le, nat_lt, slice_index}
+use Rattle.std.specs.Prelude.{ℕ, ◌+◌, Bool, cond, ◌&&◌, List, [], ◌∷◌, map, length, Some, None, Option, ◌==◌, nat_lt, slice_index}
 use Rattle.std.specs.List.{list_all, list_any, range_with_len}
+use Rattle.receivers.specs.Rules.{few_entries}
 
 -- whether the link is in the row
 abbrev pub in_row : ℕ → List ℕ → Bool
@@ -16,7 +17,7 @@ count_after counts row link = cond (in_row link row) (slice_index counts link + 
 
 -- whether the row can be counted when so many rows were counted before
 abbrev pub countable : ℕ → List ℕ → Bool
-countable rows row = nat_le (length row) 63 && (nat_lt rows 4294967295 && all_links row)
+countable rows row = few_entries row && (nat_lt rows 4294967295 && all_links row)
 
 -- the count of rows in what a tally holds
 abbrev pub rows_in : List ℕ → ℕ

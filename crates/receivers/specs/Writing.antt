@@ -1,6 +1,6 @@
 -- The text writer's taking rule. It holds the bytes of the lines, one line for each row.
 use Rattle.std.specs.Prelude.{ℕ, ◌+◌, ◌<◌, ◌≤◌, Bool, cond, ◌&&◌, List, [], ◌∷◌, ◌++◌, length, Some, None, decimal, nat_le, slice_index}
-use Rattle.receivers.specs.Rules.{Rule}
+use Rattle.receivers.specs.Rules.{Rule, few_entries}
 
 -- entries in decimal, each behind a space
 abbrev pub spaced : List ℕ → List ℕ
@@ -22,7 +22,7 @@ ShortRow row = (length row ≤ 63) × ((i : ℕ) → slice_index row i < 65536)
 
 -- whether the row has at most 63 entries and its line, behind so many bytes, fits into the places
 abbrev pub writable : ℕ → ℕ → List ℕ → Bool
-writable places held row = nat_le (length row) 63 && nat_le (held + length (line_of row)) places
+writable places held row = few_entries row && nat_le (held + length (line_of row)) places
 
 -- the rule of a text writer that was passed so many places
 abbrev pub writing : ℕ → Rule

@@ -2,8 +2,9 @@
 
 ghost use Rattle.std.specs.Prelude.{◌≡◌, ◌+◌, ◌≤◌, [], ◌++◌, length, drop, nat_le};
 
-/// A passed list, used from the front. The list is a field here, and not of a struct around this one, so that a caller knows what it
-/// holds once it is given back.
+/// A passed list, used from the front.
+// Keeper and text writer are this type and do not hold it: of a passed list that lies deeper than a field, a caller learns
+// nothing once it is given back.
 #[derive(Drop)]
 pub struct Places<'a, T> {
     cells: &'a mut [T],

@@ -4,6 +4,7 @@ ghost use Rattle.std.specs.Prelude.{◌≡◌, ◌≤◌, ◌∷◌, ◌++◌, l
 ghost use Rattle.texts.specs.Lines.{line_bytes};
 ghost use Rattle.receivers.specs.Writing.{spaced, entries_of, line_of};
 
+use crate::types::MOST_ENTRIES;
 use texts::LineOf;
 
 /// How many bytes suffice for the line of any row of at most 63 entries.
@@ -49,7 +50,7 @@ fn put_entries(line: &mut RowLine, row: &[u16])
 
 /// The line of a row.
 pub(crate) fn row_line(row: &[u16]) -> RowLine
-    requires { length row.now ≤ 63 }
+    requires { length row.now ≤ MOST_ENTRIES }
     ensures { line_bytes result ≡ line_of row.now }
 {
     let mut line = RowLine::new();

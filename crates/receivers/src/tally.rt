@@ -59,16 +59,9 @@ impl Tally {
         }
     }
 
-    /// Whether the row can be counted.
-    fn counts(&self, row: &[u16]) -> bool
-        ensures { result ≡ countable self.now.rows row.now }
-    {
-        row.len() <= MOST_ENTRIES && self.rows < u32::MAX && links_only(row)
-    }
-
     /// Counts the link for the latest row, unless it was counted for it before.
     fn note(&mut self, link: usize)
-        requires inside { link < 512 }
+        requires inside { link < LINKS }
         requires room { slice_index (lasts_of self.old) link < self.old.rows → slice_index (counts_of self.old) link < self.old.rows }
         ensures rows { self.new.rows ≡ self.old.rows }
         ensures lasts { lasts_of self.new ≡ slice_set (lasts_of self.old) link self.old.rows }
@@ -89,15 +82,6 @@ impl Tally {
             self.note(*link as usize);
         }
     }
-
-    /// Counts the row.
-    fn count_row(&mut self, row: &[u16])
-        requires { countable self.old.rows row.now ≡ true }
-        ensures { tallied self.new ≡ (self.old.rows + 1) ∷ map (count_after (counts_of self.old) row.now) (range_with_len 0 (length (counts_of self.old))) }
-    {
-        self.rows += 1;
-        self.note_all(row);
-    }
 }
 
 impl Receiver for Tally {
@@ -110,14 +94,15 @@ impl Receiver for Tally {
     ghost lender = { λ _. [] };
 
     fn asks(&self, row: &[u16]) -> bool {
-        self.counts(row)
+        row.len() <= MOST_ENTRIES && self.rows < u32::MAX && links_only(row)
     }
 
     fn take(&mut self, row: &[u16]) -> bool {
-        if !self.counts(row) {
+        if !self.asks(row) {
             return false;
         }
-        self.count_row(row);
+        self.rows += 1;
+        self.note_all(row);
         true
     }
 }

@@ -3,7 +3,7 @@
 ghost use Rattle.std.specs.Prelude.{◌≡◌, decimal};
 ghost use Rattle.texts.specs.Digits.{digits_of};
 
-use crate::types::Digits;
+use crate::types::{Digits, MOST_DIGITS};
 use itoa::write_digits;
 
 impl Digits {
@@ -11,8 +11,8 @@ impl Digits {
     pub fn of(n: u64) -> Digits
         ensures { digits_of result ≡ decimal n }
     {
-        let mut places = [0; 20];
-        let start = write_digits(n, &mut places, 20);
+        let mut places = [0; MOST_DIGITS];
+        let start = write_digits(n, &mut places, MOST_DIGITS);
         Digits { places, start }
     }
 
@@ -20,6 +20,6 @@ impl Digits {
     pub fn as_slice(&self) -> &[u8]
         ensures { result.now ≡ digits_of self.now }
     {
-        self.places.split_at(self.start).1
+        &self.places[self.start..]
     }
 }
