@@ -141,7 +141,6 @@ module _ (p : Plan) where
     -- the facts that the candidates keep, in the order of their fields
     pub selected_owed : record {
       room : n ≤ 512;
-      wide : length items ≡ 512;
       all : n ≡ length (ranked_of p);
       numbers : (c : ℕ) → c < n → (candidate_at items c).number ≡ get_or (ranked_of p) c 0;
       starts : (c : ℕ) → c < n → (candidate_at items c).start ≡ (link_at p.links (candidate_at items c).number).from;
@@ -152,7 +151,6 @@ module _ (p : Plan) where
     }
     selected_owed = record {
       room = omega (arith, all.few, numbered_all, p.room);
-      wide = all.wide;
       all = selected_count;
       numbers = selected_at;
       starts = λ c l. ap (λ (x : Candidate). x.start) (all.reads c l);

@@ -47,7 +47,7 @@ module _ (list : Candidates) where
   Small xs = (c : ℕ) → In c xs → c < list.count
 
   abbrev link_of : ℕ → ℕ
-  link_of = (number_of list)
+  link_of = number_of list
 
   pub find_same : (S : List ℕ) (u : ℕ) → Small S
       → find (graph_of list.plan).from (graph_of list.plan).to (map link_of S) u ≡ find (start_of list) (end_of list) S u

@@ -22,10 +22,10 @@ pub(crate) struct Candidate {
 pub(crate) struct Candidates {
     pub(crate) plan: Plan,
     /// How many candidates there are; the places past them hold nothing of meaning.
+    // A type of places with their count would be copied by hand, and read through one more field everywhere.
     pub(crate) count: usize,
     pub(crate) items: [Candidate; 512],
     ghost room: { count ≤ 512 },
-    ghost wide: { length items ≡ 512 },
     ghost all: { count ≡ length (ranked_of plan) },
     ghost numbers: { (c : ℕ) → c < count → (candidate_at items c).number ≡ slice_index (ranked_of plan) c },
     ghost starts: { (c : ℕ) → c < count → (candidate_at items c).start ≡ (link_at plan.links (candidate_at items c).number).from },

@@ -41,4 +41,4 @@ mod walk;
 
 pub use enumeration::Rows;
 pub use kept::Kept;
-pub use plan::Plan;
+pub use plan::{Plan, PlanLink};

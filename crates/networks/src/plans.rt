@@ -13,8 +13,7 @@ use crate::closed::Closed;
 use crate::links::Link;
 use crate::networks::Network;
 use crate::ranking::rank_links;
-use cheapest::Plan;
-use cheapest::plan::PlanLink;
+use cheapest::{Plan, PlanLink};
 use weights::WeightKind;
 
 /// How many links have lower weight than this one.
