@@ -82,6 +82,7 @@ impl<K: WeightKind> Walk<K> {
         ensures spare { EndOf (R.Receiver.spare receiver.old) (R.Receiver.spare receiver.new) }
         ensures lender { R.Receiver.lender receiver.new ≡ R.Receiver.lender receiver.old }
     {
+        // A pair of a count and a letter, and no struct: a form that the product is to have.
         let (count, ending) = pour_rows(&mut self.rows, receiver, limit);
         (count, ending.letter())
     }

@@ -9,7 +9,7 @@ pub returns-clause-begun : goal.returns-clause-begun
 returns-clause-begun g c =
     let same = c.new-rows.ensures.plan in
     record {
-      graph = ap graph_of same ∙ c.plan.ensures.graph;
+      graph = (let graph = c.plan.ensures.graph in cc);
       alike = λ x y k l. ap (λ (p : Plan). numbers.le (mark_of p x) (mark_of p y)) same ∙ c.plan.ensures.alike x y k l;
     }
 
