@@ -19,23 +19,23 @@ use Rattle.networks.proofs.Counted.{counted_alike}
 use Rattle.networks.specs.declared.classes.Class.{Class}
 use Rattle.networks.specs.declared.classes.Class.TheVariants.{Never, Always, Sometimes}
 
-module _ (g : Graph) (s s' : Scale) (w : ℕ → s.Amount) (w' : ℕ → s'.Amount) (same : (r : List ℕ) → Cheapest g s w r ↔ Cheapest g s' w' r) where
-  some_alike : (F : List ℕ) → InSome g s w F → InSome g s' w' F
-  some_alike F i = (i.0, (same i.0).0 i.1, i.2)
+module _ (g : Graph) (s s' : Scale) (w : ℕ → s.Amount) (w' : ℕ → s'.Amount) (to : (r : List ℕ) → Cheapest g s w r → Cheapest g s' w' r) where
+  some_along : (F : List ℕ) → InSome g s w F → InSome g s' w' F
+  some_along F i = (i.0, to i.0 i.1, i.2)
 
-  every_alike : (e : ℕ) → InEvery g s w e → InEvery g s' w' e
-  every_alike e h r c = h r ((same r).1 c)
+  every_along : (e : ℕ) → InEvery g s' w' e → InEvery g s w e
+  every_along e h r c = h r (to r c)
 
-  some_back : (F : List ℕ) → InSome g s' w' F → InSome g s w F
-  some_back F i = (i.0, (same i.0).1 i.1, i.2)
-
-  every_back : (e : ℕ) → InEvery g s' w' e → InEvery g s w e
-  every_back e h r c = h r ((same r).0 c)
-
-  class_alike : (e : ℕ) (c : Class) → HasClass g s w e c → HasClass g s' w' e c
-  class_alike e Never h = λ i. h (some_back (e ∷ []) i)
-  class_alike e Always h = (some_alike (e ∷ []) h.0, every_alike e h.1)
-  class_alike e Sometimes h = (some_alike (e ∷ []) h.0, (λ i. h.1 (every_back e i)))
+class_alike : (g : Graph) (s s' : Scale) (w : ℕ → s.Amount) (w' : ℕ → s'.Amount) → ((r : List ℕ) → Cheapest g s w r ↔ Cheapest g s' w' r)
+    → (e : ℕ) (c : Class) → HasClass g s w e c → HasClass g s' w' e c
+class_alike g s s' w w' same e =
+    let to = λ (r : List ℕ). (same r).0 in
+    let back = λ (r : List ℕ). (same r).1 in
+    λ c. elim c as (λ (d : Class). HasClass g s w e d → HasClass g s' w' e d) [
+      | Never ↦ λ h i. h (some_along g s' s w' w back (e ∷ []) i)
+      | Always ↦ λ h. (some_along g s s' w w' to (e ∷ []) h.0, every_along g s' s w' w back e h.1)
+      | Sometimes ↦ λ h. (some_along g s s' w w' to (e ∷ []) h.0, (λ i. h.1 (every_along g s s' w w' to e i)))
+    ]
 
 -- a link has one class
 pub one_class : (g : Graph) (s : Scale) (w : ℕ → s.Amount) (e : ℕ) (c d : Class) → HasClass g s w e c → HasClass g s w e d → c ≡ d

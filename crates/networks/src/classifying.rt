@@ -33,6 +33,7 @@ impl TryFrom<char> for Class {
     ghost try_from_gives = { Reads };
 
     fn try_from(letter: char) -> Result<Class, Refusal> {
+        // A letter is matched as it is, and any other refused: a form that the product is to have.
         match letter {
             'A' => Ok(Class::Always),
             'S' => Ok(Class::Sometimes),

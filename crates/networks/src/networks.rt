@@ -10,7 +10,8 @@ use crate::links::Link;
 #[derive(Drop)]
 pub struct Network<K> {
     pub(crate) sites: u8,
-    /// How many of the places below hold a link; the others hold nothing of meaning.
+    /// How many of the places below hold a link; the others hold nothing of meaning. No call allocates, so the places are
+    /// fixed in number.
     pub(crate) count: usize,
     pub(crate) links: [Link<K>; 512],
     pub(crate) closed: Closed,

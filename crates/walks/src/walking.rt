@@ -80,6 +80,7 @@ impl<K: WeightKind> Walk<K> {
         ensures stays { Stays K.WeightKind.weighing self.old self.new }
         ensures serves { Serves R.Receiver.rule R.Receiver.spare R.Receiver.lender receiver.old receiver.new }
     {
+        // A pair of a count and a letter, and no struct: a form that the product is to have.
         let (count, ending) = pour_rows(&mut self.rows, receiver, limit);
         (count, ending.letter())
     }

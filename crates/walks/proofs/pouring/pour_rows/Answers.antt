@@ -29,7 +29,7 @@ returns-in-Err-clause-does g c =
     let r = c.args.receiver.now in
     let now = c.loop-count.receiver in
     taken_ends c.args.rows.now c.loop-count.rows c.offer.new.rows (k.rule r) (k.rule now) (k.held r) (k.held now) (k.held c.offer.new.receiver)
-    c.loop-count.count c.offer.result i.0 i.1.rule c.offer.ensures.does c.in-Err.ending c.args.limit c.in-Err.is c.loop-count-test.true
+    c.loop-count.count c.offer.result i.0 i.1.rule c.offer.ensures.does c.in-Err.ending c.args.limit c.in-Err.is (let less = c.loop-count-test.true in omega arith)
 
 pub returns-clause-does : goal.returns-clause-does
 returns-clause-does g c =
