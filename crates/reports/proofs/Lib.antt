@@ -6,5 +6,6 @@ pub mod Followed
 pub mod Printed
 pub mod Prices
 pub mod Networks
+pub mod Judging
 pub mod Told
 pub mod Answering

@@ -1,16 +1,11 @@
 -- What is answered to a sheet.
-use Rattle.std.specs.Prelude.{◌≡◌, ℕ, cond, List, ◌++◌, length, Some, Ok, Err, codes, decimal, Result, MatchOption, ◌==◌, slice_index}
+use Rattle.std.specs.Prelude.{◌≡◌, ℕ, cond, List, ◌++◌, length, Ok, Err, codes, decimal, Result, ◌==◌, slice_index}
 use Rattle.networks.specs.Networks.{sites_of, links_of}
-use Rattle.networks.specs.Opening.{open_rules}
-use Rattle.networks.specs.Refusals.{first_of, refusal_of, report_of, line_of}
-use Rattle.networks.specs.declared.links.Link.{Link}
+use Rattle.networks.specs.Refusals.{report_of, line_of}
 use Rattle.networks.specs.declared.networks.Network.{Network}
 use Rattle.networks.specs.declared.refusals.Refusal.{Refusal}
-use Rattle.networks.specs.declared.refusals.Report.{Report}
-use Rattle.sheets.specs.Layout.{sheet_of}
-use Rattle.sheets.specs.Loading.{Opened}
-use Rattle.sheets.specs.Reading.{read_rules}
 use Rattle.sheets.specs.declared.reading.Counts.{Counts}
+use Rattle.reports.specs.Judging.{RefusedWith, Judged}
 use Rattle.reports.specs.Kinds.{form_of}
 use Rattle.reports.specs.declared.answers.Kind.{Kind}
 use Rattle.reports.specs.declared.answers.Kind.TheVariants.{Metres as metres, CrossingsMetres as crossings}
@@ -19,28 +14,12 @@ use Rattle.reports.specs.declared.answers.Kind.TheVariants.{Metres as metres, Cr
 abbrev pub kind_of : List ℕ → Kind
 kind_of sheet = cond (slice_index sheet 5 == 80) crossings metres
 
--- the answer is a refusal with this report
-abbrev pub RefusedWith : {T : Type 0} → Result T Refusal → Report → Type 0
-RefusedWith a report = refusal_of a ≡ Some report
-
 abbrev pub counted : ℕ → ℕ → Counts
 counted sites links = record { sites = sites; links = links }
 
-module _ (letter width : ℕ) {K : Type 0} (bytes : K → List ℕ) (sheet : List ℕ) where
-  -- the sheet is read with room for all links that a sheet may have, and opened, or refused with its report
-  abbrev pub Loads : Result (Network K) Refusal → Type 0
-  Loads r = MatchOption (first_of (read_rules letter width sheet 512)) ((before after : List (Link K)) × Opened letter width bytes sheet before after r) (RefusedWith r)
-
-  -- the sheet is that of some links between so many sites, and the answer is their number, or the refusal to open them
-  pub record Opens (a : Result Counts Refusal) : Type 0 where
-    pub sites : ℕ
-    pub links : List (Link K)
-    pub reads : sheet_of letter width bytes sites links ≡ sheet
-    pub answers : MatchOption (first_of (open_rules sites links)) (a ≡ Ok (counted sites (length links))) (RefusedWith a)
-
-  -- the answer to a sheet that is read as one kind, with room for all links that a sheet may have
-  abbrev pub AnswersKind : Result Counts Refusal → Type 0
-  AnswersKind a = MatchOption (first_of (read_rules letter width sheet 512)) (Opens a) (RefusedWith a)
+-- the answer to a sheet that is read as one kind: the number of its sites and links, or the refusal to read or open them
+abbrev pub AnswersKind : (letter width : ℕ) {K : Type 0} (bytes : K → List ℕ) → List ℕ → Result Counts Refusal → Type 0
+AnswersKind letter width bytes sheet a = Judged letter width bytes sheet (λ sites links. a ≡ Ok (counted sites (length links))) (RefusedWith a)
 
 -- the answer to a sheet, read as the kind that its byte 5 says
 abbrev pub AnswersAs : Kind → List ℕ → Result Counts Refusal → Type 0

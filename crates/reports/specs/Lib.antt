@@ -1,4 +1,5 @@
 pub mod Kinds
+pub mod Judging
 pub mod Answers
 pub mod Sinks
 pub mod Listing

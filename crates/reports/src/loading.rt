@@ -1,13 +1,15 @@
 //! Loading a sheet with room for all links that it may have.
 
 ghost use Rattle.std.specs.Prelude.{◌≡◌};
-ghost use Rattle.reports.specs.Answers.{Loads, counts_of};
+ghost use Rattle.reports.specs.Answers.{counts_of};
+ghost use Rattle.reports.specs.Judging.{Loads};
 
 use networks::{Link, Network, Refusal};
 use sheets::{Counts, SheetKind, load};
 use weights::WeightKind;
 
-/// Loads the sheet as a network of one kind.
+/// Loads the sheet as a network of one kind. Callers name the kind where it is known: code over every kind would have to
+/// show that any kind's network fits in memory.
 pub(crate) fn load_as<K: SheetKind>(sheet: &[u8]) -> Result<Network<K>, Refusal>
     ensures { Loads K.SheetKind.letter K.SheetKind.width K.SheetKind.bytes sheet.now result }
 {

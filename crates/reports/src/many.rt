@@ -4,11 +4,12 @@ ghost use Rattle.std.specs.Prelude.{◌≡◌, length, MatchOption};
 ghost use Rattle.std.specs.Iterator.{at_most};
 ghost use Rattle.reports.specs.Many.{NextSheet, CutShort};
 
-/// One byte more than the longest sheet has, so that a longer one is seen to be too long.
+/// How many bytes the programs read of one sheet, themselves, since no library here holds a list that grows: one more than
+/// the longest sheet has, so that a longer one is seen to be too long.
 pub const MOST: u64 = 4106;
 
 /// The sheets in some bytes, each behind two bytes for its length, up to the first that is cut short.
-#[derive(Clone, Copy)]
+#[derive(Drop)]
 pub struct Sheets<'a>(pub &'a [u8]);
 
 impl<'a> Iterator for Sheets<'a> {

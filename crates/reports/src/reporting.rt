@@ -67,7 +67,7 @@ fn put_answer<S: Sink>(out: &mut S, answer: Answer)
     out.put(b"\n");
 }
 
-/// Puts the last line out.
+/// Puts the last line out, by parts, for the reason for which `line` goes by parts.
 fn put_last<K: Shown, S: Sink>(out: &mut S, count: u32, total: Option<K::Total>, letter: char)
     requires { letter < 128 }
     ensures { PutOut S.Sink.took out.old (last_line count (total_text K.Shown.text total) letter) out.new }

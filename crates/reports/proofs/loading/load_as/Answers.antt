@@ -1,5 +1,5 @@
 use Rattle.std.proofs.Common.{replicate, refl}
-use Rattle.reports.proofs.Answering.{loads}
+use Rattle.reports.proofs.Judging.{loads}
 use Rattle.reports.proofs.loading.load_as.Goals as goal
 
 pub returns : goal.returns
