@@ -6,5 +6,5 @@
 pub mod links;
 pub mod pouring;
 
-pub use links::complete;
+pub use links::{complete, complete_network};
 pub use pouring::pour_all;

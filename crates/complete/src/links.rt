@@ -1,10 +1,12 @@
-//! The links of a complete network.
+//! The links of a complete network, and the network of them.
 
-ghost use Rattle.std.specs.Prelude.{◌≡◌, ◌++◌, IfOk, OnOk};
+ghost use Rattle.std.specs.Prelude.{◌≡◌, ℕ, ◌++◌, false, IfOk, OnOk};
+ghost use Rattle.networks.specs.Networks.{sites_of, links_of, closed_in};
 ghost use Rattle.complete.specs.Links.{links_back, links_below};
 
-use networks::Link;
+use networks::{Link, Network};
 use std::alloc::{AllocError, Global};
+use std::io;
 use weights::Metres;
 
 /// Links the site to each that has a lower number.
@@ -27,4 +29,15 @@ pub fn complete(heap: Global, sites: u8) -> Result<Vec<Link<Metres>>, AllocError
         link_back(&mut links, site)?;
     }
     Ok(links)
+}
+
+/// The complete network of so many sites, each link one metre long. One that is refused is an error.
+pub fn complete_network(heap: Global, sites: u8) -> io::Result<Network<Metres>>
+    ensures sites { IfOk result (λ n. sites_of n ≡ sites) }
+    ensures links { IfOk result (λ n. links_of n ≡ links_below sites) }
+    ensures opens { IfOk result (λ n. (e : ℕ) → closed_in n e ≡ false) }
+{
+    let links = complete(heap, sites)?;
+    Network::open(sites, &links)
+        .map_err(|_| io::Error::other("a complete network of so many sites is refused"))
 }

@@ -3,22 +3,17 @@
 
 #![tactic(auto)]
 
-use complete::{complete, pour_all};
-use networks::Network;
+use complete::{complete_network, pour_all};
 use receivers::Tally;
 use std::{env, io};
 
 fn main(rt: HostRuntime) -> io::Result<()> {
-    for word in env::args(&rt)?.skip(1) {
-        let Ok(sites) = word.as_str().parse::<u8>() else {
-            continue;
-        };
-        let links = complete(rt.alloc(), sites)?;
-        if let Ok(network) = Network::open(sites, links.as_slice()) {
-            let mut tally = Tally::new();
-            let (rows, _) = pour_all(network, &mut tally);
-            println!(rt; "{sites} {rows}")?;
-        }
+    let numbers = env::args(&rt)?.skip(1);
+    for sites in numbers.filter_map(|word| word.as_str().parse::<u8>().ok()) {
+        let network = complete_network(rt.alloc(), sites)?;
+        let mut tally = Tally::new();
+        let (rows, _) = pour_all(network, &mut tally);
+        println!(rt; "{sites} {rows}")?;
     }
     Ok(())
 }
