@@ -1,7 +1,8 @@
 -- Links that every cheapest tree has. Some cheapest tree avoids a link if and only if the first row
 -- without it is a spanning tree's and has the first row's amounts at every position.
-use Rattle.std.proofs.Common.{◌≡◌, ℕ, ◌+◌, ◌<◌, ◌≤◌, Bool, true, false, not, ◌&&◌, eqb, List, map, length, get_or, set, Decides, sym, refl, ap, ◌∙◌, inl, inr, arith}
+use Rattle.std.proofs.Common.{◌≡◌, ℕ, ◌+◌, ◌<◌, ◌≤◌, Bool, false, not, ◌&&◌, eqb, List, map, length, get_or, set, Decides, sym, ap, ◌∙◌, inl, inr, arith}
 use mathlib.Core.Path.{fun_ext}
+use Rattle.std.proofs.Math.Bool.{and-true}
 use Rattle.std.proofs.lemmas.List.{length-map, get_or-set_same, get_or-set_other, get_or_past}
 use Rattle.std.proofs.lemmas.Bool.{cases_eq, cases_Bool, eq-eqb, ne_eqb, and_right, both_ways, not-true, not_from_true, not_from_false}
 use Rattle.weights.specs.Scales.{Scale, Lawful, sum_of}
@@ -19,10 +20,6 @@ use Rattle.cheapest.proofs.Theorems.{position}
 use Rattle.cheapest.proofs.Numbers.{numbers_lawful}
 use Rattle.cheapest.proofs.Listed.{plan_fits}
 
-and_true : (b : Bool) → (b && true) ≡ b
-and_true true = refl
-and_true false = refl
-
 module _ (g : Graph) (fits : Fits g) (s : Scale) (laws : Lawful s) (w : ℕ → s.Amount) (closed : ℕ → Bool) where
   pub avoidable_marks : Avoidable g s w closed
       → (length (first g s w) + 1 ≡ g.sites) × (length (first (closing g closed) s w) + 1 ≡ g.sites) × (map w (first (closing g closed) s w) ≡ map w (first g s w))
@@ -39,7 +36,7 @@ module _ (g : Graph) (fits : Fits g) (s : Scale) (laws : Lawful s) (w : ℕ → 
 
 -- a link that is not the closed one is as it was
 as_it_was : (usable : List Bool) (link e : ℕ) → (e ≡ link → ⊥) → (get_or usable e false && not (eqb e link)) ≡ get_or usable e false
-as_it_was usable link e ne = ap (λ b. get_or usable e false && not b) (ne_eqb e link ne) ∙ and_true (get_or usable e false)
+as_it_was usable link e ne = ap (λ b. get_or usable e false && not b) (ne_eqb e link ne) ∙ and-true (get_or usable e false)
 
 -- closing one link, in the list of usable links
 pub closed_at : (usable : List Bool) (link e : ℕ) → link < length usable → get_or (set usable link false) e false ≡ (get_or usable e false && not (eqb e link))

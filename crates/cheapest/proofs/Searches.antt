@@ -156,10 +156,3 @@ module _ {start end number : List ℕ} {n : ℕ} {numbers row : List ℕ} {stack
         ∙ cond-false (eqb (get_or number c 0) (get_or numbers p 0)) _ _ (ne_eqb (get_or number c 0) (get_or numbers p 0) ne)
         ∙ ap (λ xs. matches (ring start end) (value_at number) (push [] (take p row)) (drop (c + 1) (below n)) xs) (sym (drop_more numbers p 0 k));
   }
-
-pub matching_moved : {start end number : List ℕ} {n : ℕ} {numbers row row' : List ℕ} {stack stack' : List (List ℕ)} {p p' c : ℕ}
-    → row' ≡ row → stack' ≡ stack → p' ≡ p → Matching start end number n numbers row stack p c → Matching start end number n numbers row' stack' p' c
-matching_moved {start} {end} {number} {n} {numbers} {row} {row'} {stack} {stack'} {p} {p'} {c} a b d h =
-    subst (λ r. Matching start end number n numbers r stack' p' c) (sym a)
-    (subst (λ s. Matching start end number n numbers row s p' c) (sym b)
-    (subst (λ q. Matching start end number n numbers row stack q c) (sym d) h))

@@ -1,19 +1,11 @@
-use Rattle.std.proofs.Common.{arith, lit<}
+use Rattle.std.proofs.Common.{arith}
 use Rattle.cheapest.proofs.Filling.{picks_short}
 use Rattle.cheapest.proofs.Listed.{ends_fit}
-use Rattle.cheapest.proofs.Standings.{placed_none}
 use Rattle.cheapest.proofs.Stances.{first_owed}
 use Rattle.cheapest.proofs.enumeration.Rows.before.Goals as goal
 
-pub first_row-size-requires : goal.first_row-size-requires
-first_row-size-requires c =
-    let list = c.args.list in
-    let walk = c.empty-walk.result in
-    record {
-      few = lit< tt;
-      placed = placed_none list walk.at walk.labels c.empty-walk.ensures;
-      short = picks_short list.start list.end list.count (ends_fit list);
-    }
+pub first_row-size-requires-clause-short : goal.first_row-size-requires-clause-short
+first_row-size-requires-clause-short c = let list = c.args.list in picks_short list.start list.end list.count (ends_fit list)
 
 pub invariant_of-result : goal.invariant_of-result
 invariant_of-result c =

@@ -1,13 +1,10 @@
-use Rattle.std.proofs.Common.{refl, rules}
+use Rattle.std.proofs.Common.{rules}
 use Rattle.cheapest.proofs.Prefixes.{fronts_more}
 use Rattle.cheapest.proofs.walk.Walk.choose.Goals as goal
 
-pub returns : goal.returns
-returns c =
+pub returns-clause-fronts : goal.returns-clause-fronts
+returns-clause-fronts c =
     let list = c.args.list.now in
     let walk = c.args.self.now in
-    record {
-      row = refl;
-      fronts = fronts_more list.start list.end walk.at walk.labels c.args.p c.args.c c.merged.result
-          (search rules) (search rules) (search rules) (search rules) c.requires.fronts c.merged.ensures.relabels;
-    }
+    fronts_more list.start list.end walk.at walk.labels c.args.p c.args.c c.merged.result
+    (search rules) (search rules) (search rules) (search rules) c.requires.fronts c.merged.ensures.relabels
