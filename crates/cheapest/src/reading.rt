@@ -19,6 +19,7 @@ pub(crate) fn read_row<'a>(
     ensures keeps { (j : ℕ) → j < i → slice_index out.new j ≡ slice_index out.old j }
     ensures writes { (j : ℕ) → (i ≤ j) × (j < n) → slice_index out.new j ≡ slice_index table.now (slice_index at.now j) }
 {
+    // By index: after a zip with iter_mut the proof would know nothing of what was written.
     for j in i..n {
         out[j] = table[at[j] as usize];
     }
