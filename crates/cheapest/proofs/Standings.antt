@@ -295,6 +295,6 @@ module _ (list : Candidates) {at : List ℕ} {stack : List (List ℕ)} {size : �
 pub written_over : (n k : ℕ) (row given put : List ℕ) → put ≡ given → length given ≡ n → k ≡ n → n ≤ length row
     → (length (put ++ drop k row) ≡ length row) × ((j : ℕ) → j < n → get_or (put ++ drop k row) j 0 ≡ get_or given j 0)
 written_over n k row given put e long same room = (
-    omega (arith, length-append put (drop k row), length-drop k row, ap length e),
-    (λ j l. get_or_append_left put (drop k row) 0 j (omega (arith, ap length e)) ∙ ap (λ xs. get_or xs j 0) e),
-  )
+  omega (arith, length-append put (drop k row), length-drop k row, ap length e),
+  (λ j l. get_or_append_left put (drop k row) 0 j (omega (arith, ap length e)) ∙ ap (λ xs. get_or xs j 0) e),
+)

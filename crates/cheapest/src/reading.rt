@@ -30,11 +30,8 @@ pub(crate) fn has_marks<'a>(plan: &'a Plan, numbers: &'a [u16], wanted: &'a [u16
     requires { length numbers.now ≤ 64 }
     ensures { Decides result ((j : ℕ) → j < length numbers.now → (slice_index numbers.now j < 512) × (mark_of plan.now (slice_index numbers.now j) ≡ slice_index wanted.now j)) }
 {
-    for (link, want) in numbers.iter().zip(wanted) {
-        let link = *link as usize;
-        if link >= 512 || plan.mark[link] != *want {
-            return false;
-        }
-    }
-    true
+    numbers
+        .iter()
+        .zip(wanted)
+        .all(|(link, want)| plan.mark.get(*link as usize) == Some(want))
 }

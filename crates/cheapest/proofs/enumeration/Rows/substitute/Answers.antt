@@ -31,10 +31,10 @@ returns-in_err-c c =
     let f = rw c.row-row.ensures at c.in_ok-q.ensures in
     let at = row_place rows q c.args.link f.0 f.1 in
     rw c.from_residual-in_err-c.ensures (λ f m s.
-        none_stands rows at.0 q at.1 rest (e.len ∙ rows.widerow) (λ j l. e.by_index.1 j 0 l)
-        (λ j h. e.by_index.0 j 0 h.0 (omega (arith, rows.widerow, h.1)) ∙ ap (λ (k : ℕ). get_or rows.row k 0) (omega (arith, h.0)))
-        c.place.new.self.wide (take (rows.size - 1 - 0) rest) (ap (λ (n : ℕ). take n rest) (omega arith)) c.place.ensures
-        c.args.link at.2 c.in_err-c.ensures f s)
+    none_stands rows at.0 q at.1 rest (e.len ∙ rows.widerow) (λ j l. e.by_index.1 j 0 l)
+    (λ j h. e.by_index.0 j 0 h.0 (omega (arith, rows.widerow, h.1)) ∙ ap (λ (k : ℕ). get_or rows.row k 0) (omega (arith, h.0)))
+    c.place.new.self.wide (take (rows.size - 1 - 0) rest) (ap (λ (n : ℕ). take n rest) (omega arith)) c.place.ensures
+    c.args.link at.2 c.in_err-c.ensures f s)
 
 pub returns : goal.returns
 returns c =
