@@ -1,7 +1,8 @@
 -- Links that every cheapest tree has. Some cheapest tree avoids a link if and only if the first row
 -- without it is a spanning tree's and has the first row's amounts at every position.
-use Rattle.std.proofs.Common.{◌≡◌, ℕ, ◌+◌, ◌<◌, ◌≤◌, Bool, true, false, not, ◌&&◌, eqb, List, map, length, get_or, set, Decides, sym, refl, ap, ◌∙◌, inl, inr, arith}
+use Rattle.std.proofs.Common.{◌≡◌, ℕ, ◌+◌, ◌<◌, ◌≤◌, Bool, false, not, ◌&&◌, eqb, List, map, length, get_or, set, Decides, sym, ap, ◌∙◌, inl, inr, arith}
 use mathlib.Core.Path.{fun_ext}
+use Rattle.std.proofs.Math.Bool.{and-true}
 use Rattle.std.proofs.lemmas.List.{length-map, get_or-set_same, get_or-set_other, get_or_past}
 use Rattle.std.proofs.lemmas.Bool.{cases_eq, cases_Bool, eq-eqb, ne_eqb, and_right, both_ways, not-true, not_from_true, not_from_false}
 use Rattle.weights.specs.Scales.{Scale, Lawful, sum_of}
@@ -18,10 +19,6 @@ use Rattle.cheapest.proofs.Joining.{tree_size}
 use Rattle.cheapest.proofs.Theorems.{position}
 use Rattle.cheapest.proofs.Numbers.{numbers_lawful}
 use Rattle.cheapest.proofs.Listed.{plan_fits}
-
-and_true : (b : Bool) → (b && true) ≡ b
-and_true true = refl
-and_true false = refl
 
 module _ (g : Graph) (fits : Fits g) (s : Scale) (laws : Lawful s) (w : ℕ → s.Amount) (closed : ℕ → Bool) where
   pub avoidable_marks : Avoidable g s w closed

@@ -28,11 +28,10 @@ row_place rows q e l is = elim (cases_Bool rows.on) [
 ]
 
 module _ (rows : Rows) (on : is_on rows ≡ true) (q : ℕ) (ql : q < rows.size) (rest : List ℕ) (wide : length rest ≡ 64)
-    (before : (j : ℕ) → j < q → get_or rest j 0 ≡ get_or rows.row j 0)
-    (after : (j : ℕ) → (q ≤ j) × (j < 63) → get_or rest j 0 ≡ get_or rows.row (j + 1) 0)
+    (before : (j d : ℕ) → j < q → get_or rest j d ≡ get_or rows.row j d)
+    (after : (j d : ℕ) → q ≤ j → j < q + (length rows.row - (q + 1)) → get_or rest j d ≡ get_or rows.row (q + 1 + (j - q)) d)
     {at : List ℕ} {stack : List (List ℕ)} {r : Bool} (wide_at : length at ≡ 64)
-    (given : List ℕ) (is-given : given ≡ take (rows.size - 1) rest)
-    (found : Matched (start_of rows.list) (end_of rows.list) (number_of rows.list) rows.list.count given at stack r) where
+    (found : Matched (start_of rows.list) (end_of rows.list) (number_of rows.list) rows.list.count (take (rows.size - 1 - 0) rest) at stack r) where
   here : q < length (take rows.size rows.row)
   here = omega (arith, length-take-le rows.size rows.row (omega (arith, rows.small, rows.widerow)))
 
@@ -40,10 +39,11 @@ module _ (rows : Rows) (on : is_on rows ≡ true) (q : ℕ) (ql : q < rows.size)
   cheapest = row_cheapest (standing rows) (rows.joins on)
 
   rest_is : take (rows.size - 1) rest ≡ leaving q (take rows.size rows.row)
-  rest_is = left_out rows.size q rows.row rest ql rows.small rows.widerow wide before after
+  rest_is = left_out rows.size q rows.row rest ql rows.small rows.widerow wide (λ j l. before j 0 l)
+      (λ j h. after j 0 h.0 (omega (arith, rows.widerow, h.1)) ∙ ap (λ (k : ℕ). get_or rows.row k 0) (omega (arith, h.0)))
 
   matched : Matched (start_of rows.list) (end_of rows.list) (number_of rows.list) rows.list.count (take (rows.size - 1) rest) at stack r
-  matched = subst (λ xs. Matched (start_of rows.list) (end_of rows.list) (number_of rows.list) rows.list.count xs at stack r) is-given found
+  matched = subst (λ (n : ℕ). Matched (start_of rows.list) (end_of rows.list) (number_of rows.list) rows.list.count (take n rest) at stack r) (omega arith) found
 
   placed : Placed (start_of rows.list) (end_of rows.list) (number_of rows.list) rows.list.count (take (rows.size - 1) rest) at stack (rows.size - 1)
   placed =

@@ -91,10 +91,3 @@ module _ {start end : ℕ → ℕ} {n : ℕ} {front row : List ℕ} {stack : Lis
     fronts = here.placed.fronts;
     inside = here.placed.inside;
   }
-
-pub filling_moved : {start end : ℕ → ℕ} {n : ℕ} {front row row' : List ℕ} {stack stack' : List (List ℕ)} {p p' c : ℕ}
-    → row' ≡ row → stack' ≡ stack → p' ≡ p → Filling start end n front row stack p c → Filling start end n front row' stack' p' c
-filling_moved {start} {end} {n} {front} {row} {row'} {stack} {stack'} {p} {p'} {c} a b d h =
-    subst (λ r. Filling start end n front r stack' p' c) (sym a)
-    (subst (λ s. Filling start end n front row s p' c) (sym b)
-    (subst (λ q. Filling start end n front row stack q c) (sym d) h))

@@ -91,14 +91,6 @@ pub record Growing (start end class : ℕ → ℕ) (n : ℕ) (wanted row₀ : Li
   pub placed : Placed start end class n wanted row stack p
   pub whole : grown start end n (take i row₀) first ≡ grown start end n (take p row) c
 
--- the same state under other names
-pub growing_moved : {start end class : ℕ → ℕ} {n : ℕ} {wanted row₀ : List ℕ} {i first : ℕ} {row row' : List ℕ} {stack stack' : List (List ℕ)} {p p' c : ℕ}
-    → row' ≡ row → stack' ≡ stack → p' ≡ p → Growing start end class n wanted row₀ i first row stack p c → Growing start end class n wanted row₀ i first row' stack' p' c
-growing_moved {start} {end} {class} {n} {wanted} {row₀} {i} {first} {row} {row'} {stack} {stack'} {p} {p'} {c} a b d h =
-    subst (λ r. Growing start end class n wanted row₀ i first r stack' p' c) (sym a)
-    (subst (λ s. Growing start end class n wanted row₀ i first row s p' c) (sym b)
-    (subst (λ q. Growing start end class n wanted row₀ i first row stack q c) (sym d) h))
-
 module _ {start end class : ℕ → ℕ} {n : ℕ} {wanted row₀ : List ℕ} {i first : ℕ} {row : List ℕ} {stack : List (List ℕ)} {p c : ℕ}
     (here : Growing start end class n wanted row₀ i first row stack p c) where
   pub growing_skip : c < n → ring start end (push [] (take p row)) c ≡ true → Growing start end class n wanted row₀ i first row stack p (c + 1)

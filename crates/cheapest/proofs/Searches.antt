@@ -1,12 +1,12 @@
 -- Searches over candidates. The departures of a row are tried from the last place on; each try keeps the
 -- front before its place, so the next try finds what it needs. The candidates of given link numbers are
 -- found in one run, as the test `matches` goes.
-use Rattle.std.proofs.Common.{◌≡◌, ℕ, ◌+◌, ◌<◌, ◌≤◌, Bool, true, false, not, ◌&&◌, eqb, None, Some, List, [], ◌∷◌, map, length, get_or, take, drop, set, sym, refl, ap, ◌∙◌, subst, inl, inr, arith}
-use Rattle.std.proofs.lemmas.List.{get_or-take, take-take, drop_more, drop_all}
+use Rattle.std.proofs.Common.{◌≡◌, ℕ, ◌+◌, ◌<◌, ◌≤◌, Bool, true, false, not, ◌&&◌, eqb, List, [], ◌∷◌, map, length, get_or, take, drop, set, sym, refl, ap, ◌∙◌, subst, inl, inr, arith}
+use Rattle.std.proofs.lemmas.List.{drop_more, drop_all}
 use Rattle.std.proofs.lemmas.Bool.{cases_eq, cond-true, cond-false, eq-eqb, ne_eqb, false≢true}
 use Rattle.forests.specs.Closures.{push}
 use Rattle.forests.specs.Labels.{below}
-use Rattle.cheapest.specs.Scans.{ring, grown, departed, matches, Fronts, Placed, Completed, Moved, Matched}
+use Rattle.cheapest.specs.Scans.{ring, departed, matches, Fronts, Placed, Matched}
 use Rattle.cheapest.proofs.Prefixes.{push_set}
 use Rattle.cheapest.proofs.Growth.{below_from, below_past, placed_more, placed_less}
 
@@ -16,62 +16,6 @@ pub record Trying (start end class : ℕ → ℕ) (n : ℕ) (wanted row₀ row :
   pub same : take i row ≡ take i row₀
   pub placed : Placed start end class n wanted row stack i
   pub misses : (j : ℕ) → i ≤ j → j < length wanted → map class (departed start end n row₀ j) ≡ wanted → ⊥
-
-module _ {start end class : ℕ → ℕ} {n : ℕ} {wanted row₀ row : List ℕ} {stack : List (List ℕ)} where
-  pub trying_first : row ≡ row₀ → Placed start end class n wanted row stack (length wanted) → Trying start end class n wanted row₀ row stack (length wanted)
-  trying_first e h = record {
-    far = omega arith;
-    same = ap (take (length wanted)) e;
-    placed = h;
-    misses = λ j l k. absurd (omega arith);
-  }
-
-  pub moved_none : Trying start end class n wanted row₀ row stack 0 → Moved start end class n wanted row₀ row stack None
-  moved_none here = record { empty = here.placed.fronts; answers = λ j l. here.misses j (omega arith) l }
-
-  -- one try, at place i
-  module _ (i : ℕ) {i' : ℕ} (here : Trying start end class n wanted row₀ row stack i') (down : i + 1 ≡ i') where
-    one_same : take i row ≡ take i row₀
-    one_same = sym (take-take i i' row (omega arith)) ∙ ap (take i) here.same ∙ take-take i i' row₀ (omega arith)
-
-    -- it completes the departure of row₀
-    one_departed : grown start end n (take i row) (get_or row i 0 + 1) ≡ departed start end n row₀ i
-    one_departed =
-        let at : get_or row i 0 ≡ get_or row₀ i 0 =
-        sym (get_or-take i' row i 0 (omega arith)) ∙ ap (λ xs. get_or xs i 0) here.same ∙ get_or-take i' row₀ i 0 (omega arith) in
-        ap (λ xs. grown start end n xs (get_or row i 0 + 1)) one_same ∙ ap (λ x. grown start end n (take i row₀) (x + 1)) at
-
-    pub one_placed : Placed start end class n wanted row stack i
-    one_placed = placed_less start end class n wanted row stack i' i (omega arith) here.placed
-
-    pub moved_one : {next : ℕ} {row' : List ℕ} {stack' : List (List ℕ)} → next ≡ get_or row i 0 + 1
-        → Completed start end class n wanted row i next row' stack' true → Moved start end class n wanted row₀ row' stack' (Some i)
-    moved_one {next} {row'} {stack'} from done =
-        let d = subst (λ x. Completed start end class n wanted row i x row' stack' true) from done in
-        record {
-          empty = (placed_less start end class n wanted row' stack' i 0 (omega arith) d.placed).fronts;
-          answers = record {
-            inside = omega (arith, here.far);
-            same = d.same ∙ one_same;
-            placed = d.found refl;
-            grows = ap (take (length wanted)) (sym one_departed) ∙ d.grows refl;
-            misses = λ j l k. here.misses j (omega arith) k;
-          };
-        }
-
-    pub trying_next : {next : ℕ} {row' : List ℕ} {stack' : List (List ℕ)} → next ≡ get_or row i 0 + 1
-        → Completed start end class n wanted row i next row' stack' false → Trying start end class n wanted row₀ row' stack' i
-    trying_next {next} {row'} {stack'} from done =
-        let d = subst (λ x. Completed start end class n wanted row i x row' stack' false) from done in
-        record {
-          far = omega (arith, here.far);
-          same = d.same ∙ one_same;
-          placed = d.placed;
-          misses = λ j l k e. elim (cases_eq j i) [
-            | inl at ↦ d.misses refl (ap (map class) one_departed ∙ subst (λ x. map class (departed start end n row₀ x) ≡ wanted) at e)
-            | inr ne ↦ here.misses j (omega arith) k e
-          ];
-        }
 
 pub matches_none : (test : List ℕ → ℕ → Bool) (number : ℕ → ℕ) (S cs : List ℕ) → matches test number S cs [] ≡ true
 matches_none test number S [] = refl
@@ -156,10 +100,3 @@ module _ {start end number : ℕ → ℕ} {n : ℕ} {numbers row : List ℕ} {st
         ∙ cond-false (eqb (number c) (get_or numbers p 0)) _ _ (ne_eqb (number c) (get_or numbers p 0) ne)
         ∙ ap (λ xs. matches (ring start end) number (push [] (take p row)) (drop (c + 1) (below n)) xs) (sym (drop_more numbers p 0 k));
   }
-
-pub matching_moved : {start end number : ℕ → ℕ} {n : ℕ} {numbers row row' : List ℕ} {stack stack' : List (List ℕ)} {p p' c : ℕ}
-    → row' ≡ row → stack' ≡ stack → p' ≡ p → Matching start end number n numbers row stack p c → Matching start end number n numbers row' stack' p' c
-matching_moved {start} {end} {number} {n} {numbers} {row} {row'} {stack} {stack'} {p} {p'} {c} a b d h =
-    subst (λ r. Matching start end number n numbers r stack' p' c) (sym a)
-    (subst (λ s. Matching start end number n numbers row s p' c) (sym b)
-    (subst (λ q. Matching start end number n numbers row stack q c) (sym d) h))

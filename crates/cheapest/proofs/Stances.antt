@@ -13,7 +13,7 @@ use Rattle.cheapest.specs.Runs.{row_in}
 use Rattle.cheapest.specs.declared.candidates.Candidates.{Candidates}
 use Rattle.cheapest.specs.declared.enumeration.Rows.{Rows}
 use Rattle.cheapest.specs.Candidates.{start_of, end_of, class_of, number_of}
-use Rattle.cheapest.proofs.Joining.{tree_size, first_begins, joined_size}
+use Rattle.cheapest.proofs.Joining.{tree_size, first_begins}
 use Rattle.cheapest.proofs.RowTests.{passes_cheapest, cheapest_passes}
 use Rattle.cheapest.proofs.Standings.{Standing, first_standing, first_at}
 
@@ -92,13 +92,6 @@ module _ (rows : Rows) where
       let size : length (take rows.size rows.row) ≡ rows.size = length-take-le rows.size rows.row (omega (arith, rows.small, rows.widerow)) in
       ext_get_or 0 (take rows.size rows.row) (first_of (plan_of rows)) (size ∙ rows.whole)
       (λ j l. let k : j < rows.size = omega (arith, size) in get_or-take rows.size rows.row j 0 k ∙ rows.begins j (e, k))
-
-  pub stops_tree : (rows.size + 1 ≡ (plan_of rows).sites → ⊥) → Stops rows
-  stops_tree apart = record {
-    no_tree = λ _ t. apart (omega (arith, rows.whole, tree_size (plan_of rows) t));
-    not_joined = λ _ h. apart (omega (arith, rows.whole, joined_size (plan_of rows) h));
-    no_row = λ e. absurd (apart (rows.joins e));
-  }
 
   pub stops_row : is_on rows ≡ true → NoneFollows (graph_of (plan_of rows)) numbers (mark_of (plan_of rows)) (take rows.size rows.row) → Stops rows
   stops_row on none = record {

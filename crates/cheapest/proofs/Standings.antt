@@ -2,13 +2,13 @@
 -- prefixes, the marks that are wanted. What it stands on is the row of a cheapest tree if there is one; a
 -- search that found the next row of the wanted marks stands on the row that follows, and a search that
 -- found none shows that none follows.
-use Rattle.std.proofs.Common.{◌≡◌, ℕ, ◌+◌, ◌<◌, ◌≤◌, Bool, true, List, [], ◌∷◌, ◌++◌, map, length, get_or, take, drop, sym, refl, ap, ◌∙◌, subst, inl, inr, arith}
+use Rattle.std.proofs.Common.{◌≡◌, ℕ, ◌+◌, ◌<◌, ◌≤◌, true, List, [], ◌∷◌, ◌++◌, map, length, get_or, take, drop, sym, refl, ap, ◌∙◌, subst, inl, inr, arith, Bool}
 use Rattle.std.proofs.lemmas.List.{ext_get_or, get_or_append_left, length-append, length-drop, length-map, length-take-le, get_or-map, get_or-take, take-take, take_all}
 use Rattle.std.proofs.lemmas.Bool.{cases_lt}
 use Rattle.weights.specs.Amounts.{numbers}
 use Rattle.forests.specs.Lists.{In}
 use Rattle.forests.specs.Closures.{push, picks}
-use Rattle.forests.specs.Labels.{find, below}
+use Rattle.forests.specs.Labels.{below}
 use Rattle.forests.proofs.Members.{in_either, place}
 use Rattle.forests.proofs.Completion.{picks_within}
 use Rattle.cheapest.specs.Completions.{departs, Good}
@@ -74,7 +74,7 @@ module _ {list : Candidates} {at : List ℕ} {stack : List (List ℕ)} {size : �
   row_shown : map (number_of list) (take size at) ≡ take size row
   row_shown = numbers_front list at size (omega (arith, here.small, here.wide_at)) here.inside row (omega (arith, here.small, here.wide_row)) here.shows
 
-  marks_first : map (mark_of list.plan) (first_of list.plan) ≡ take size wanted
+  pub marks_first : map (mark_of list.plan) (first_of list.plan) ≡ take size wanted
   marks_first =
       let w = mark_of list.plan in
       let f = first_of list.plan in
@@ -102,14 +102,6 @@ module _ {list : Candidates} {at : List ℕ} {stack : List (List ℕ)} {size : �
 
   pub row_cheapest : size + 1 ≡ list.plan.sites → Cheapest (graph_of list.plan) numbers (mark_of list.plan) (take size row)
   row_cheapest joined = passes_cheapest list (omega (arith, here.whole)) (take size row) here.passing row_level
-
-  -- what a search over candidates needs
-  pub row_placed : (goal : List ℕ) → goal ≡ take size wanted → Placed (start_of list) (end_of list) (class_of list) list.count goal at stack size
-  row_placed goal e = record {
-    fronts = here.fronts;
-    inside = here.inside;
-    classes = λ j l. here.levels j l ∙ sym (get_or-take size wanted j 0 l) ∙ ap (λ xs. get_or xs j 0) (sym e);
-  }
 
   departed_front : (j : ℕ) → j < size
       → departed (start_of list) (end_of list) list.count (take size at) j ≡ departed (start_of list) (end_of list) list.count at j
@@ -193,9 +185,6 @@ module _ {list : Candidates} {at : List ℕ} {stack : List (List ℕ)} {size : �
 
       found_placed : Placed (start_of list) (end_of list) (class_of list) list.count goal at' stack' size
       found_placed = subst (λ m. Placed (start_of list) (end_of list) (class_of list) list.count goal at' stack' m) goal_length moved.placed
-
-      pub found_inside : (j : ℕ) → j < size → get_or at' j 0 < 512
-      found_inside j l = omega (arith, found_placed.inside j l, list.room)
 
       found_good : Good (graph_of list.plan) numbers (mark_of list.plan) (take size row) i
       found_good =
@@ -314,24 +303,10 @@ module _ (list : Candidates) {at : List ℕ} {stack : List (List ℕ)} {size : �
     passing = ap (row_in list) first_is ∙ best_passes list (first_of list.plan) (first_best list);
   }
 
--- An empty row has the labels of an empty prefix.
-pub fronts_none : (start end : ℕ → ℕ) (row : List ℕ) (stack : List (List ℕ)) → ((u : ℕ) → u < 64 → get_or (get_or stack 0 []) u 0 ≡ u) → Fronts start end row stack 0
-fronts_none start end row stack h j u l =
-    let e : j ≡ 0 = omega (arith, l.0) in
-    ap (λ k. get_or (get_or stack k []) u 0) e ∙ h u l.1 ∙ ap (λ k. find start end (push [] (take k row)) u) (sym e)
-
 -- The row with other links written over its front.
 pub written_over : (n k : ℕ) (row given put : List ℕ) → put ≡ given → length given ≡ n → k ≡ n → n ≤ length row
     → (length (put ++ drop k row) ≡ length row) × ((j : ℕ) → j < n → get_or (put ++ drop k row) j 0 ≡ get_or given j 0)
 written_over n k row given put e long same room = (
-    omega (arith, length-append put (drop k row), length-drop k row, ap length e),
-    (λ j l. get_or_append_left put (drop k row) 0 j (omega (arith, ap length e)) ∙ ap (λ xs. get_or xs j 0) e),
-  )
-
-pub placed_none : (list : Candidates) (row : List ℕ) (stack : List (List ℕ)) → ((u : ℕ) → u < 64 → get_or (get_or stack 0 []) u 0 ≡ u)
-    → Placed (start_of list) (end_of list) (λ _. 0) list.count [] row stack 0
-placed_none list row stack h = record {
-  fronts = fronts_none (start_of list) (end_of list) row stack h;
-  inside = λ j l. absurd (omega arith);
-  classes = λ j l. refl;
-}
+  omega (arith, length-append put (drop k row), length-drop k row, ap length e),
+  (λ j l. get_or_append_left put (drop k row) 0 j (omega (arith, ap length e)) ∙ ap (λ xs. get_or xs j 0) e),
+)

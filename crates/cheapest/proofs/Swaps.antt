@@ -1,7 +1,8 @@
 -- Links that stand in for a link of a cheapest row. Without the link the row falls into two parts; a link of
 -- its mark that closes no ring with the rest stands in, and whatever stands in is such a link.
-use Rattle.std.proofs.Common.{◌≡◌, ℕ, zero, suc, ◌+◌, ◌-◌, ◌<◌, ◌≤◌, true, false, List, [], ◌∷◌, ◌++◌, map, length, get_or, take, drop, sym, refl, ap, ◌∙◌, subst, inl, inr, arith, drop-cons}
-use Rattle.std.proofs.lemmas.List.{ext_get_or, length-append, length-drop, length-take-le, get_or_append_left, get_or-append_right, get_or-drop, get_or-take, take-append-drop}
+use Rattle.std.proofs.Common.{◌≡◌, ℕ, zero, suc, ◌+◌, ◌-◌, ◌<◌, ◌≤◌, true, false, List, [], ◌∷◌, ◌++◌, map, length, get_or, take, drop, sym, refl, ap, ◌∙◌, subst, inl, inr, arith}
+use Rattle.std.proofs.Math.Seq.{split_at}
+use Rattle.std.proofs.lemmas.List.{ext_get_or, length-append, length-drop, length-take-le, get_or_append_left, get_or-append_right, get_or-drop, get_or-take}
 use Rattle.std.proofs.lemmas.Bool.{both_ways, cases_Bool, cases_lt}
 use Rattle.weights.specs.Amounts.{numbers}
 use Rattle.forests.specs.Lists.{In, Within, Different, Rising}
@@ -34,10 +35,6 @@ use Rattle.cheapest.proofs.TreeRows.{candidate_allowed, allowed_candidate}
 abbrev pub leaving : ℕ → List ℕ → List ℕ
 leaving q xs = take q xs ++ drop (suc q) xs
 
-pub around : (q : ℕ) (xs : List ℕ) → q < length xs → xs ≡ take q xs ++ (get_or xs q 0 ∷ drop (suc q) xs)
-around q xs l = sym (take-append-drop q xs) ∙ ap (λ ys. take q xs ++ ys) (drop-cons xs q 0 l)
-
--- a member of a list of different members stands at one place only
 pub split_same : (xs front back : List ℕ) (q e : ℕ) → Different xs → q < length xs → get_or xs q 0 ≡ e → xs ≡ front ++ (e ∷ back) → front ++ back ≡ leaving q xs
 split_same [] front back q e d l at s = absurd (omega arith)
 split_same (x ∷ xs) [] back zero e d l at s = let t : xs ≡ back = cc in sym t
@@ -53,7 +50,7 @@ split_same (x ∷ xs) (y ∷ front) back (suc q) e d l at s =
     ap (λ z. z ∷ (front ++ back)) (sym h) ∙ ap (λ zs. x ∷ zs) (split_same xs front back q e d.1 (omega arith) at t)
 
 pub leaving_within : (q : ℕ) (xs : List ℕ) → q < length xs → Within (leaving q xs) xs
-leaving_within q xs l x m = subst (λ ys. In x ys) (sym (around q xs l))
+leaving_within q xs l x m = subst (λ ys. In x ys) (sym (split_at xs q 0 l))
     (elim (in_either x (take q xs) (drop (suc q) xs) m) [
       | inl a ↦ in_left x (take q xs) (get_or xs q 0 ∷ drop (suc q) xs) a
       | inr b ↦ in_right x (take q xs) (get_or xs q 0 ∷ drop (suc q) xs) (inr b)
@@ -68,7 +65,7 @@ module _ (list : Candidates) (row : List ℕ) (cheapest : CheapestIn list.plan r
   rest_indep =
       let g = graph_of list.plan in
       indep_without g (take q row) (drop (suc q) row) (get_or row q 0)
-      (subst (Indep (ClosesRing g)) (around q row here) (tree_indep g (plan_fits list.plan) row cheapest.row.tree))
+      (subst (Indep (ClosesRing g)) (split_at row q 0 here) (tree_indep g (plan_fits list.plan) row cheapest.row.tree))
 
   -- the rest passes the test for rows
   pub rest_passes : row_in list (leaving q row) ≡ true
@@ -77,7 +74,7 @@ module _ (list : Candidates) (row : List ℕ) (cheapest : CheapestIn list.plan r
       let key = key_of list.plan in
       let R : ℕ → ℕ → Type 0 = λ x y. key x < key y in
       let e = get_or row q 0 in
-      let whole : Rising key (take q row ++ (e ∷ drop (suc q) row)) = subst (Rising key) (around q row here) cheapest.row.rises in
+      let whole : Rising key (take q row ++ (e ∷ drop (suc q) row)) = subst (Rising key) (split_at row q 0 here) cheapest.row.rises in
       free_passes list (leaving q row)
       (ordered_append R (take q row) (drop (suc q) row) (ordered_take R q row cheapest.row.rises) (ordered_rest R (take q row) (e ∷ drop (suc q) row) whole).1
       (λ x y a b. ordered_across R (take q row) (e ∷ drop (suc q) row) whole x y a (inr b)))
@@ -110,7 +107,7 @@ module _ (list : Candidates) (row : List ℕ) (cheapest : CheapestIn list.plan r
     swap_stands h ok apart =
         let p = list.plan in
         substitute_stands numbers numbers_lawful (graph_of p) (plan_fits p) (mark_of p) (take q row) (drop (suc q) row) (get_or row q 0) h
-        (subst (CheapestIn p) (around q row here) cheapest) (allowed_swap h ok) apart
+        (subst (CheapestIn p) (split_at row q 0 here) cheapest) (allowed_swap h ok) apart
 
     module _ (e wanted : ℕ) (at_q : get_or row q 0 ≡ e) (mark : mark_of list.plan e ≡ wanted) where
       different : Different row
@@ -136,7 +133,7 @@ module _ (list : Candidates) (row : List ℕ) (cheapest : CheapestIn list.plan r
           let key = key_of p in
           let C = chains g.from g.to in
           let S = h ∷ leaving q row in
-          let swapped : CheapestIn p (sorted key S) = stands.swaps (take q row) (drop (suc q) row) (around q row here ∙ ap (λ z. take q row ++ (z ∷ drop (suc q) row)) at_q) in
+          let swapped : CheapestIn p (sorted key S) = stands.swaps (take q row) (drop (suc q) row) (split_at row q 0 here ∙ ap (λ z. take q row ++ (z ∷ drop (suc q) row)) at_q) in
           let tree : SpanningTree g S = tree_any_order g (plan_fits p) (sorted key S) S swapped.row.tree (λ x m. sorted_in key x S m) (λ x m. in_sorted key x S m) (sym (length_sorted key S)) in
           let apart : ClosesRing g (leaving q row) h → ⊥ = (tree_indep g (plan_fits p) S tree).0 in
           let m = allowed_candidate g key S tree.allowed h (inl refl) in

@@ -23,6 +23,7 @@ pub(crate) fn read_row<F: Fn(Candidate) -> u16>(
     ensures keeps { (j : ℕ) → j < i → slice_index out.new j ≡ slice_index out.old j }
     ensures writes { (j : ℕ) → (i ≤ j) × (j < n) → F.post ask (candidate_at list.now.items (slice_index at.now j)) (slice_index out.new j) }
 {
+    // By index: after a zip with iter_mut the proof would know nothing of what was written.
     for j in i..n {
         out[j] = ask(list.items[at[j] as usize]);
     }
@@ -33,11 +34,8 @@ pub(crate) fn has_marks<'a>(plan: &'a Plan, numbers: &'a [u16], wanted: &'a [u16
     requires { length numbers.now ≤ 64 }
     ensures { Decides result ((j : ℕ) → j < length numbers.now → (slice_index numbers.now j < 512) × (mark_of plan.now (slice_index numbers.now j) ≡ slice_index wanted.now j)) }
 {
-    for (link, want) in numbers.iter().zip(wanted) {
-        let link = *link as usize;
-        if link >= 512 || plan.links[link].mark != *want {
-            return false;
-        }
-    }
-    true
+    numbers.iter().zip(wanted).all(|(link, want)| {
+        let link = plan.links.get(*link as usize);
+        link.is_some_and(|link| link.mark == *want)
+    })
 }

@@ -48,6 +48,7 @@ impl Walk {
         ensures { MatchedIn list.now numbers.now self.new result }
     {
         let mut p = 0;
+        // Candidates are counted here too, since the row holds their numbers.
         for c in 0..list.count {
             if p == numbers.len() {
                 return true;

@@ -6,6 +6,7 @@ ghost use Rattle.cheapest.specs.Plans.{graph_of, mark_of, first_of};
 ghost use Rattle.cheapest.specs.Positions.{plan_of, is_on, row_of, HasTree};
 
 use crate::enumeration::Rows;
+use crate::plan::Plan;
 
 impl Rows {
     /// Whether the usable links join all sites, so that there is a spanning tree.
@@ -36,5 +37,20 @@ impl Rows {
         ensures { result.now ≡ map (mark_of (plan_of self.now)) (first_of (plan_of self.now)) }
     {
         &self.wanted[0..self.size]
+    }
+
+    /// The plan that is walked through.
+    pub(crate) fn plan(&self) -> &Plan
+        ensures { result.now ≡ plan_of self.now }
+    {
+        &self.list.plan
+    }
+
+    /// Ends the walk, and gives the plan back.
+    pub(crate) fn into_plan(self) -> Plan
+        ensures { result ≡ plan_of self }
+    {
+        let Rows { list, .. } = self;
+        list.plan
     }
 }

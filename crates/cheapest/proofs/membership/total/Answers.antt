@@ -10,8 +10,11 @@ use Rattle.cheapest.specs.Candidates.{class_of}
 use Rattle.cheapest.proofs.membership.total.Goals as goal
 
 pub sum-requires-clause-can : goal.sum-requires-clause-can
-sum-requires-clause-can c = (tt, serves_from_places (YieldsList-from_slice c.args.row.now cc) (λ x q r. search rules)
-    (λ x k l e. let small : x.now < 512 = omega (arith, c.requires.inside k l, e, get_or_default c.args.row.now k x.now 0 l) in search rules))
+sum-requires-clause-can c = (
+  tt,
+  serves_from_places (YieldsList-from_slice c.args.row.now cc) (λ x q r. search rules)
+      (λ x k l e. let small : x.now < 512 = omega (arith, c.requires.inside k l, e, get_or_default c.args.row.now k x.now 0 l) in search rules),
+)
 
 pub returns : goal.returns
 returns c =

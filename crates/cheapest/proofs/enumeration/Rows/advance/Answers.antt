@@ -27,9 +27,6 @@ returns-in_default-clause-ends c = λ _.
     let on = c.if-not-self.false in
     stops_row rows on (none_follows (standing rows) (take (rows.size - 0) rows.wanted) (ap (λ (n : ℕ). take n rows.wanted) (omega arith)) c.in_default.ensures.answers (rows.joins on))
 
-pub returns-in_default-clause-stays : goal.returns-in_default-clause-stays
-returns-in_default-clause-stays c = λ _. record { on = refl; row = refl }
-
 pub invariant_of-self-2 : goal.invariant_of-self-2
 invariant_of-self-2 c =
     let rows = c.args.self.now in

@@ -1,20 +1,12 @@
-use Rattle.std.proofs.Common.{rules, arith, lit<}
+use Rattle.std.proofs.Common.{rules, arith}
 use Rattle.cheapest.proofs.Filling.{picks_short}
 use Rattle.cheapest.proofs.Listed.{ends_fit}
-use Rattle.cheapest.proofs.Standings.{placed_none}
 use Rattle.cheapest.proofs.Stances.{first_owed}
 use Rattle.cheapest.proofs.enumeration.Rows.before.Goals as goal
 use Rattle.cheapest.specs.Candidates.{start_of, end_of}
 
-pub first_row-size-requires : goal.first_row-size-requires
-first_row-size-requires c =
-    let list = c.args.list in
-    let walk = c.empty-walk.result in
-    record {
-      few = lit< tt;
-      placed = placed_none list walk.at walk.labels c.empty-walk.ensures;
-      short = picks_short (start_of list) (end_of list) list.count (ends_fit list);
-    }
+pub first_row-size-requires-clause-short : goal.first_row-size-requires-clause-short
+first_row-size-requires-clause-short c = let list = c.args.list in picks_short (start_of list) (end_of list) list.count (ends_fit list)
 
 pub invariant_of-result : goal.invariant_of-result
 invariant_of-result c =

@@ -1,20 +1,11 @@
-use Rattle.std.proofs.Common.{ℕ, ◌-◌, ◌++◌, take, drop, sym, refl, ap, ◌∙◌, arith}
+use Rattle.std.proofs.Common.{◌-◌, ◌++◌, drop, sym, refl, ◌∙◌, arith}
 use Rattle.std.proofs.lemmas.Bool.{true≢false, false≢true}
-use Rattle.cheapest.proofs.Standings.{again_standing, other_standing, written_over}
+use Rattle.cheapest.proofs.Standings.{other_standing, written_over}
 use Rattle.cheapest.proofs.Stances.{standing, owed, refused, listed_passes, passing_listed}
 use Rattle.cheapest.proofs.enumeration.Rows.seek.Goals as goal
 
-pub invariant_of-self : goal.invariant_of-self
-invariant_of-self c =
-    let rows = c.args.self.now in
-    owed (again_standing (standing rows) (take (rows.size - 0) rows.row) (ap (λ (n : ℕ). take n rows.row) (omega arith))
-    c.place-then-not-place.ensures c.place-then-not-place.new.self.wide) rows.begins rows.joins
-
 pub returns-then-not-place-clause-listed : goal.returns-then-not-place-clause-listed
 returns-then-not-place-clause-listed c = refused (λ l. false≢true (c.if-not-place.ensures.answers ∙ listed_passes c.args.self.now c.args.row.now l))
-
-pub returns-then-not-place-clause-stays : goal.returns-then-not-place-clause-stays
-returns-then-not-place-clause-stays c = λ _. record { on = refl; row = refl }
 
 pub invariant_of-self-2 : goal.invariant_of-self-2
 invariant_of-self-2 c =

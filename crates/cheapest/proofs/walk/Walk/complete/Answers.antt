@@ -1,22 +1,9 @@
-use Rattle.std.proofs.Common.{sym, refl, arith}
+use Rattle.std.proofs.Common.{sym, arith}
 use Rattle.std.proofs.lemmas.Bool.{not-true, not-false}
-use Rattle.cheapest.proofs.Growth.{growing_skip, growing_take, completed, ended, given_up, misses_class, misses_high}
+use Rattle.cheapest.proofs.Growth.{growing_skip, growing_take, ended, given_up, misses_class, misses_high}
 use Rattle.cheapest.proofs.Listed.{classes_rise}
 use Rattle.cheapest.proofs.walk.Walk.complete.Goals as goal
 use Rattle.cheapest.proofs.walk.Walk.complete.Goals.{then-apart+else-list-c-2, else-apart}
-
-pub loop-c-init : goal.loop-c-init
-loop-c-init c = record {
-  wide = c.args.self.now.wide;
-  low = omega arith;
-  far = c.requires.within.0;
-  same = refl;
-  placed = c.requires.placed;
-  whole = refl;
-}
-
-pub returns-then-p-wanted : goal.returns-then-p-wanted
-returns-then-p-wanted c = completed c.loop-c.invariant (omega arith) (let few = c.requires.within.1 in omega arith)
 
 pub returns-then-list-c : goal.returns-then-list-c
 returns-then-list-c c =

@@ -1,23 +1,11 @@
-use Rattle.std.proofs.Common.{sym, refl}
+use Rattle.std.proofs.Common.{sym}
 use Rattle.std.proofs.lemmas.Bool.{not-true, not-false}
 use Rattle.cheapest.proofs.Filling.{filling_skip, filling_room, filling_take, filled}
 use Rattle.cheapest.proofs.walk.Walk.first_row.Goals as goal
 use Rattle.cheapest.proofs.walk.Walk.first_row.Goals.{then-apart, else-apart}
 
-pub loop-c-init : goal.loop-c-init
-loop-c-init c = record {
-  wide = c.args.self.now.wide;
-  few = c.requires.few;
-  placed = c.requires.placed;
-  short = c.requires.short;
-  whole = refl;
-}
-
-pub choose-requires : goal.choose-requires
-choose-requires c = record {
-  within = (filling_room c.loop-c.invariant c.loop-c-test.true (not-true _ (sym c.if-apart.ensures)), c.loop-c-test.true);
-  fronts = c.loop-c.invariant.placed.fronts;
-}
+pub choose-requires-clause-within : goal.choose-requires-clause-within
+choose-requires-clause-within c = (filling_room c.loop-c.invariant c.loop-c-test.true (not-true _ (sym c.if-apart.ensures)), c.loop-c-test.true)
 
 pub loop-c-preserved : goal.loop-c-preserved
 loop-c-preserved c =
