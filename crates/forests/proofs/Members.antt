@@ -2,6 +2,7 @@
 -- `In` computes; later files use these facts to compare lists by their members.
 use Rattle.std.proofs.Common.{◌≡◌, ℕ, zero, suc, ◌+◌, ◌<◌, ◌≤◌, ◌⊎◌, List, [], ◌∷◌, ◌++◌, length, get_or, take, sym, refl, ◌∙◌, subst, inl, inr, arith}
 use mathlib.Core.List.{reverse_aux}
+use Rattle.std.proofs.Math.ListN.{length-reverse_aux}
 use Rattle.std.proofs.lemmas.Bool.{cases_eq}
 use Rattle.forests.specs.Lists.{In, Within, Different}
 
@@ -54,8 +55,7 @@ pub in_moved : {A : Type 0} (x y : A) (xs : List A) → x ≡ y → In x xs → 
 in_moved x y xs e h = subst (λ z. In z xs) e h
 
 pub length_push : (S xs : List ℕ) → length (reverse_aux xs S) ≡ length S + length xs
-length_push S [] = omega arith
-length_push S (x ∷ xs) = omega (arith, length_push (x ∷ S) xs)
+length_push S xs = omega (arith, length-reverse_aux xs S)
 
 pub in_or_not : (x : ℕ) (xs : List ℕ) → In x xs ⊎ (In x xs → ⊥)
 in_or_not x [] = inr (λ h. h)
