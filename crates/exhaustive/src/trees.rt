@@ -62,7 +62,7 @@ impl Case {
         set.count_ones() + 1 == u32::from(self.sites) && set & opened == set && self.joined(set)
     }
 
-    /// The total of the set in metres.
+    /// The total of the set in metres. A loop, since it isn't proved of a chain's sum that it fits after a filter.
     fn total(&self, set: u8) -> u32
         ensures { result ≤ 1020 }
     {
