@@ -1,9 +1,10 @@
 //! Cheapest trees by looking at every set of links. A set of links is a number below 16: link 0 is 1, link 1 is 2,
 //! link 2 is 4, link 3 is 8; a set of sites likewise.
 
-ghost use Rattle.std.specs.Prelude.{◌≡◌, ℕ, ◌+◌, ◌-◌, ◌*◌, ◌^◌, ◌≤◌, true, count_ones, vec_len, IfOk};
+ghost use Rattle.std.specs.Prelude.{◌≡◌, ℕ, ◌+◌, ◌-◌, ◌*◌, ◌^◌, ◌≤◌, ◌==◌, vec_len, IfOk};
 ghost use Rattle.std.specs.List.{list_any, list_all};
-ghost use Rattle.exhaustive.specs.Sets.{has, class_in};
+ghost use Rattle.exhaustive.specs.Sets.{has};
+ghost use Rattle.exhaustive.specs.Trees.{class_in, follow, reach, spans};
 ghost use Rattle.exhaustive.specs.declared.cases.Drawn.{Drawn};
 
 use crate::cases::{Case, Drawn};
@@ -27,45 +28,41 @@ impl Case {
     }
 
     /// The sites reached when each link of the set is followed once from the sites reached before.
-    #[tactic(auto, using(std::proofs::lemmas::Nat::le_or_l))]
     fn followed(&self, set: u8, from: u8) -> u8
-        ensures { from ≤ result }
+        ensures { result ≡ follow self.now.links.items set from }
     {
-        let mut reached = from;
-        for link in &self.links {
-            if link.is_in(set) && reached & link.ends() != 0 {
-                reached |= link.ends();
+        self.links.iter().fold(from, |sites, link| {
+            if link.is_in(set) && sites & link.ends() != 0 {
+                sites | link.ends()
+            } else {
+                sites
             }
-        }
-        reached
+        })
     }
 
     /// The sites that chains of links of the set reach from site 0.
     fn reached(&self, set: u8) -> u8
-        ensures { 1 ≤ result }
+        ensures { result ≡ reach self.now.links.items set }
     {
-        let mut sites = 1;
-        for _ in 0..4 {
-            sites = self.followed(set, sites);
-        }
-        sites
+        let near = self.followed(set, self.followed(set, 1));
+        self.followed(set, self.followed(set, near))
     }
 
     /// Whether the links of the set join all sites.
     pub(crate) fn joined(&self, set: u8) -> bool
-        ensures { result ≡ true → 1 ≤ self.now.sites }
+        ensures { result ≡ (reach self.now.links.items set == 2 ^ self.now.sites - 1) }
     {
         self.reached(set) == first(self.sites)
     }
 
     /// Whether the set is a spanning tree of open links: one link less than there are sites, which join all sites.
-    fn is_tree(&self, open: u8, set: u8) -> bool
-        ensures { result ≡ true → count_ones set + 1 ≡ self.now.sites }
+    fn is_tree(&self, opened: u8, set: u8) -> bool
+        ensures { result ≡ spans self.now.links.items self.now.sites opened set }
     {
-        set.count_ones() + 1 == u32::from(self.sites) && set & open == set && self.joined(set)
+        set.count_ones() + 1 == u32::from(self.sites) && set & opened == set && self.joined(set)
     }
 
-    /// The total of the set in metres.
+    /// The total of the set in metres. A loop, since it isn't proved of a chain's sum that it fits after a filter.
     fn total(&self, set: u8) -> u32
         ensures { result ≤ 1020 }
     {
@@ -79,15 +76,15 @@ impl Case {
     }
 
     /// The sets that are cheapest trees of open links.
-    pub(crate) fn cheapest(&self, heap: Global, open: u8) -> Result<Vec<u8>, AllocError>
+    pub(crate) fn cheapest(&self, heap: Global, opened: u8) -> Result<Vec<u8>, AllocError>
         ensures { IfOk result (λ trees. vec_len trees ≤ 16) }
     {
         let least = (0..16)
-            .filter(|set| self.is_tree(open, *set))
+            .filter(|set| self.is_tree(opened, *set))
             .map(|set| self.total(set))
             .min();
         (0..16)
-            .filter(|set| self.is_tree(open, *set) && Some(self.total(*set)) == least)
+            .filter(|set| self.is_tree(opened, *set) && Some(self.total(*set)) == least)
             .collect(heap)
     }
 

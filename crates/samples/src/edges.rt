@@ -9,6 +9,7 @@ pub mod tests {
     use std::test::Fail;
     use weights::Metres;
 
+    // A constant can call no function, so `link` does not make it.
     const BLANK: Link<Metres> = Link {
         from: 0,
         to: 1,

@@ -24,9 +24,7 @@ pub mod tests {
             to: 1,
             weight,
         });
-        let network = Network::open(2, &links).map_err(|_| Fail::new(
-            "three parallel links are refused",
-        ))?;
+        let network = opened(2, &links)?;
         assert_eq!(rt; network.ranking().numbers(), [1, 2, 0].as_slice());
         Ok(())
     }

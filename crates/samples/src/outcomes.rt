@@ -4,7 +4,7 @@
 pub mod tests {
     use networks::{Layer, Link, Network, Refusal, Report};
     use std::test::Fail;
-    use weights::Metres;
+    use weights::WeightKind;
 
     pub fn outcome<T: Drop>(r: Result<T, Refusal>) -> Option<Report> {
         r.err().map(|refusal| refusal.to_report())
@@ -22,7 +22,7 @@ pub mod tests {
         refused(Layer::Network, number, place)
     }
 
-    pub fn opened(sites: u8, links: &[Link<Metres>]) -> Result<Network<Metres>, Fail> {
+    pub fn opened<K: WeightKind>(sites: u8, links: &[Link<K>]) -> Result<Network<K>, Fail> {
         Network::open(sites, links).map_err(|_| Fail::new("the network is refused"))
     }
 }

@@ -88,13 +88,9 @@ pub mod tests {
         assert_eq!(rt; outcome(network.count_class('a')), in_network(12, 0));
         let mut two = [9; 2];
         assert_eq!(rt; outcome(network.trial(9, &mut two)), in_network(10, 2));
-        assert_eq!(rt;
-            two.as_slice(),
-            [9; 2].as_slice(),
-            "a refusal writes nothing"
-        );
+        assert_eq!(rt; two, [9; 2], "a refusal writes nothing");
         assert_eq!(rt; outcome(network.trial(9, &mut [9; 3])), None);
-        let mut apart = opened(2, &[])?;
+        let mut apart: Network<Metres> = opened(2, &[])?;
         assert_eq!(rt; outcome(apart.trial(0, &mut [])), in_network(10, 0));
         assert_eq!(rt; outcome(apart.trial(0, &mut [9])), in_network(15, 0));
         Ok(())

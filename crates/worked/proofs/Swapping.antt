@@ -1,6 +1,7 @@
 -- The substitutes of a link are read off the full list: each link is tried in its place.
-use Rattle.std.proofs.Common.{◌≡◌, ℕ, ◌<◌, Bool, cond, not, ◌&&◌, eqb, ◌↔◌, List, [], ◌∷◌, ◌++◌, sym, refl, ap, ◌∙◌, subst, inl}
+use Rattle.std.proofs.Common.{◌≡◌, ℕ, ◌<◌, Bool, not, ◌&&◌, eqb, ◌↔◌, List, [], ◌∷◌, ◌++◌, sym, refl, ap, ◌∙◌, subst, inl}
 use Rattle.std.proofs.lemmas.Bool.{and_parts, and_from, not-true, not_from_false, eqb-false, ne_eqb, eq-eqb, cond-true, cond-false}
+use Rattle.std.specs.Set.{remove_key}
 use Rattle.forests.specs.Graphs.{Graph}
 use Rattle.forests.specs.Labels.{below}
 use Rattle.forests.specs.Lists.{In, Different}
@@ -16,8 +17,7 @@ use Rattle.worked.proofs.Classing.{stands, stands_decides}
 
 -- the row without link e
 abbrev pub leave : ℕ → List ℕ → List ℕ
-leave e [] = []
-leave e (x ∷ xs) = cond (eqb x e) xs (x ∷ leave e xs)
+leave e = remove_key (λ x. eqb x e)
 
 leave_cut : (e : ℕ) (front back : List ℕ) → Different (front ++ (e ∷ back)) → leave e (front ++ (e ∷ back)) ≡ front ++ back
 leave_cut e [] back once = cond-true (eqb e e) back (e ∷ leave e back) (eq-eqb e e refl)

@@ -81,7 +81,7 @@ pub fn open_rivals() -> Result<Network<Metres>, Refusal>
 }
 
 /// Performs turns on a walk through a network: where it is drawn as in a worked example, and the same is asked,
-/// they bring what the example says.
+/// they bring what the example says. Only the contract is more than that of `perform`.
 fn perform_drawn<R: Receiver>(
     network: Network<Metres>,
     receiver: &mut R,
