@@ -33,8 +33,10 @@ impl Plan {
     {
         let rows = Rows::new(*self);
         let others = Rows::new(self.without(link));
+        if !rows.joined() {
+            return true;
+        }
         let same = rows.marks() == others.marks();
-        let avoids = rows.joined() && same;
-        !avoids
+        !same
     }
 }
