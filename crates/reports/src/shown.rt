@@ -19,7 +19,7 @@ pub(crate) trait Shown: SheetKind {
 }
 
 impl Shown for Metres {
-    ghost text = { λ t. metres_text t.metres };
+    ghost text = { λ t. metres_text t.sum };
 
     fn put_total<S: Sink>(total: MetresTotal, out: &mut S) {
         put_number(out, total.metres());
@@ -28,7 +28,7 @@ impl Shown for Metres {
 
 /// Crossings and metres have a stroke between them.
 impl Shown for Pair<Crossings, Metres> {
-    ghost text = { λ t. crossings_text (t.firsts.crossings, t.seconds.metres) };
+    ghost text = { λ t. crossings_text (t.firsts.sum, t.seconds.sum) };
 
     fn put_total<S: Sink>(total: PairTotal<CrossingsTotal, MetresTotal>, out: &mut S) {
         put_number(out, total.first().crossings() as u64);
