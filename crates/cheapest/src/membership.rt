@@ -27,7 +27,9 @@ fn total(list: &Candidates, row: &[u16]) -> u32
 fn candidate_of(list: &Candidates, link: u16) -> Option<usize>
     ensures { MatchOption result ((c : ℕ) → c < list.now.count → number_of list.now c ≢ link) (λ c. (c < list.now.count) × (number_of list.now c ≡ link)) }
 {
-    list.items[..list.count].iter().position(|c| c.number == link)
+    list.items[..list.count]
+        .iter()
+        .position(|c| c.number == link)
 }
 
 /// The total of the marks of candidate `c` and its greedy completion.

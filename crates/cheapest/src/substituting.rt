@@ -26,7 +26,9 @@ impl Walk {
         ensures { MatchOption result ((c : ℕ) → c < list.now.count → CrossesIn list.now (take p self.now.at) link class c → ⊥) (λ c. (c < list.now.count) × CrossesIn list.now (take p self.now.at) link class c × ((d : ℕ) → d < c → CrossesIn list.now (take p self.now.at) link class d → ⊥)) }
     {
         (0..list.count).find(|c| {
-            list.items[*c].number != link && list.items[*c].class == class && self.apart(list, p, *c)
+            list.items[*c].number != link
+                && list.items[*c].class == class
+                && self.apart(list, p, *c)
         })
     }
 }

@@ -38,6 +38,7 @@ pub fn complete_network(heap: Global, sites: u8) -> io::Result<Network<Metres>>
     ensures opens { IfOk result (λ n. (e : ℕ) → closed_in n e ≡ false) }
 {
     let links = complete(heap, sites)?;
-    Network::open(sites, &links)
-        .map_err(|_| io::Error::other("a complete network of so many sites is refused"))
+    Network::open(sites, &links).map_err(|_| io::Error::other(
+        "a complete network of so many sites is refused",
+    ))
 }
