@@ -21,7 +21,7 @@ impl Walk {
         ensures { CompletedIn list.now wanted.now self.old self.new i first result }
     {
         let mut p = i;
-        // Candidates are counted, since the row holds their numbers; an iterator over one table would number them anew.
+        // Candidates are counted, since the row holds their numbers; an iterator over the records would number them anew.
         for c in first..list.count {
             if p == wanted.len() {
                 return true;

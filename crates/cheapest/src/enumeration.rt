@@ -14,7 +14,7 @@ use crate::walk::Walk;
 pub struct Rows {
     pub(crate) list: Candidates,
     pub(crate) walk: Walk,
-    /// How many links the first row has.
+    /// How many links the first row has, and so each row; no call allocates, so the places below are 64.
     pub(crate) size: usize,
     /// The marks of the first row, which are those of every row of the list.
     pub(crate) wanted: [u16; 64],

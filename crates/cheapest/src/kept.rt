@@ -2,7 +2,7 @@
 
 ghost use Rattle.std.specs.Prelude.{◌≡◌, ◌<◌, length};
 
-/// The links of a row, the first `size` of the array.
+/// The links of a row, the first `size` of the array. No call allocates, so it has room for any row.
 #[derive(Clone, Copy)]
 pub(crate) struct Links {
     pub(crate) numbers: [u16; 64],

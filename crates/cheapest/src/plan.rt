@@ -6,7 +6,7 @@ ghost use Rattle.cheapest.specs.Places.{link_at};
 ghost use Rattle.cheapest.specs.Ranks.{rank_of};
 
 /// A link of a plan.
-#[derive(Clone, Copy)]
+#[derive(Clone, Copy, PartialEq, Eq, Debug)]
 pub struct PlanLink {
     /// The two ends.
     pub from: u8,

@@ -31,6 +31,7 @@ impl Walk {
         requires placed { PlacedIn list.now wanted.now self.old (length wanted.now) }
         ensures { MovedIn list.now wanted.now self.old self.new result }
     {
+        // By place, since the place is what is answered and where the row is completed from.
         for i in (0..wanted.len()).rev() {
             let next = self.at[i] as usize + 1;
             if self.complete(list, wanted, i, next) {

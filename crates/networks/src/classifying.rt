@@ -78,6 +78,7 @@ fn count_in(plan: &Plan, class: Class) -> usize
     ensures { Counted (λ e. HasClass (graph_of plan.now) numbers (mark_of plan.now) e class) plan.now.count result }
 {
     let mut count = 0;
+    // By a loop: what a class is told by is a relation, and the count of a chain wants a function of the link.
     for link in 0..plan.count {
         if class_in(plan, link as u16) == class {
             count += 1;

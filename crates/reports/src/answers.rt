@@ -4,7 +4,7 @@ use networks::Refusal;
 use sheets::Counts;
 
 /// How a sheet is read.
-#[derive(Clone, Copy)]
+#[derive(Clone, Copy, PartialEq, Eq, Debug)]
 pub enum Kind {
     /// Kind W: metres.
     Metres,

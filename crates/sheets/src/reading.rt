@@ -11,7 +11,7 @@ use crate::reader::{Header, take_header};
 use networks::{Layer, Link, Refusal};
 
 /// How many sites and links a sheet has.
-#[derive(Clone, Copy)]
+#[derive(Clone, Copy, PartialEq, Eq, Debug)]
 pub struct Counts {
     pub sites: u8,
     pub links: u16,
