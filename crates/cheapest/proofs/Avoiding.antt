@@ -1,10 +1,8 @@
 -- Links that every cheapest tree has. Some cheapest tree avoids a link if and only if the first row
 -- without it is a spanning tree's and has the first row's amounts at every position.
-use Rattle.std.proofs.Common.{◌≡◌, ℕ, ◌+◌, ◌<◌, ◌≤◌, Bool, false, not, ◌&&◌, eqb, List, map, length, get_or, set, Decides, sym, ap, ◌∙◌, inl, inr, arith}
-use mathlib.Core.Path.{fun_ext}
-use Rattle.std.proofs.Math.Bool.{and-true}
-use Rattle.std.proofs.lemmas.List.{length-map, get_or-set_same, get_or-set_other, get_or_past}
-use Rattle.std.proofs.lemmas.Bool.{cases_eq, cases_Bool, eq-eqb, ne_eqb, and_right, both_ways, not-true, not_from_true, not_from_false}
+use Rattle.std.proofs.Common.{◌≡◌, ℕ, ◌+◌, Bool, not, eqb, map, length, Decides, sym, ap, ◌∙◌, inl, inr, arith}
+use Rattle.std.proofs.lemmas.List.{length-map}
+use Rattle.std.proofs.lemmas.Bool.{cases_Bool, both_ways, not-true, not_from_false}
 use Rattle.weights.specs.Scales.{Scale, Lawful, sum_of}
 use Rattle.weights.specs.Amounts.{numbers}
 use Rattle.forests.specs.Graphs.{Graph, Fits}

@@ -1,6 +1,6 @@
 -- Links that some cheapest tree has. The greedy completion of a link that is no loop has the least total of
 -- all trees with that link, so the link is in a cheapest tree if that total is the first row's.
-use Rattle.std.proofs.Common.{◌≡◌, ℕ, ◌+◌, ◌<◌, true, false, leb, List, [], ◌∷◌, map, length, get_or, Decides, sym, refl, ap, ◌∙◌, subst, inl, inr, arith}
+use Rattle.std.proofs.Common.{◌≡◌, ℕ, ◌+◌, ◌<◌, true, false, leb, List, [], ◌∷◌, map, length, Decides, sym, refl, ap, ◌∙◌, subst, inl, inr, arith}
 use Rattle.std.proofs.lemmas.Bool.{both_ways, leb-true, le-leb}
 use Rattle.weights.specs.Amounts.{numbers}
 use Rattle.weights.specs.Scales.{sum_of}

@@ -1,6 +1,6 @@
 -- Runs over candidates that are numbered in rank order. Candidate c has the ends `start c` and `end c`,
 -- and a row is a list of candidates. There are n candidates.
-use Rattle.std.specs.Prelude.{◌≡◌, ℕ, ◌+◌, ◌<◌, ◌≤◌, Bool, true, false, cond, not, ◌&&◌, Option, MatchOption, List, [], ◌∷◌, ◌++◌, map, length, get_or, take, drop, ◌==◌, ◌≢◌, slice_index, slice_index_or}
+use Rattle.std.specs.Prelude.{◌≡◌, ℕ, ◌+◌, ◌<◌, ◌≤◌, Bool, true, false, cond, not, ◌&&◌, Option, MatchOption, List, [], ◌∷◌, ◌++◌, map, length, take, drop, ◌==◌, ◌≢◌, slice_index, slice_index_or}
 use Rattle.forests.specs.Closures.{push, picks}
 use Rattle.forests.specs.Labels.{find, spanned, below}
 

@@ -1,4 +1,4 @@
-use Rattle.std.proofs.Common.{◌≡◌, length, Some, refl, ◌∙◌, subst, arith}
+use Rattle.std.proofs.Common.{◌≡◌, length, Some, subst, arith}
 use Rattle.receivers.proofs.Serving.{serves_same, serves_then}
 use Rattle.walks.specs.declared.turns.Turn.{Turn}
 use Rattle.walks.proofs.Running.{Ran, ran_none, ran_more, ran_all}

@@ -1,4 +1,3 @@
-use Rattle.std.proofs.Common.{◌≡◌}
 use Rattle.receivers.specs.Rules.{Serves}
 use Rattle.walks.proofs.Running.{Ran}
 use Rattle.walks.proofs.performing.act_all.Given as goal
