@@ -15,6 +15,7 @@ impl Walk {
         ensures { FilledIn list.now (take i self.old.at) self.new result }
     {
         let mut p = i;
+        // Candidates are counted, since the row holds their numbers.
         for c in 0..list.count {
             if self.apart(list, p, c) {
                 self.choose(list, p, c);
