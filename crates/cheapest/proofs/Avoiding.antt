@@ -32,6 +32,10 @@ module _ (g : Graph) (fits : Fits g) (s : Scale) (laws : Lawful s) (w : ℕ → 
       reaches_avoidable g fits s laws w closed
       (other, (size, le_refl s laws (sum_of s (map w (first (closing g closed) s w))) (sum_of s (map w (first g s w))) (ap (sum_of s) same)))
 
+-- Where there is no tree, every cheapest tree has any link.
+pub every_apart : (p : Plan) (link : ℕ) → (HasTree p → ⊥) → InEvery (graph_of p) numbers (mark_of p) link
+every_apart p link no_tree = (in_every_stands numbers numbers_lawful (graph_of p) (mark_of p) link).1 (λ some. no_tree (some.0, some.1.row.tree))
+
 -- The first rows with and without a link.
 module _ (p : Plan) (link : ℕ) (q : Plan) (graph : graph_of q ≡ closing (graph_of p) (λ e. eqb e link)) (marks : mark_of q ≡ mark_of p) where
   other_first : first_of q ≡ first (closing (graph_of p) (λ e. eqb e link)) numbers (mark_of p)
@@ -39,9 +43,6 @@ module _ (p : Plan) (link : ℕ) (q : Plan) (graph : graph_of q ≡ closing (gra
 
   every : (Avoidable (graph_of p) numbers (mark_of p) (λ e. eqb e link) → ⊥) → InEvery (graph_of p) numbers (mark_of p) link
   every none = (in_every_stands numbers numbers_lawful (graph_of p) (mark_of p) link).1 none
-
-  pub every_apart : (HasTree p → ⊥) → InEvery (graph_of p) numbers (mark_of p) link
-  every_apart no_tree = every (λ some. no_tree (some.0, some.1.row.tree))
 
   pub every_by_marks : HasTree p → (same : Bool) → Decides same (map (mark_of p) (first_of p) ≡ map (mark_of q) (first_of q))
       → Decides (not same) (InEvery (graph_of p) numbers (mark_of p) link)

@@ -22,7 +22,8 @@ pub(crate) struct Candidate {
 pub(crate) struct Candidates {
     pub(crate) plan: Plan,
     /// How many candidates there are; the places past them hold nothing of meaning.
-    // A type of places with their count would be copied by hand, and read through one more field everywhere.
+    // No call allocates, so the places are fixed in number; a type of its own for places with their count could not derive
+    // its copying.
     pub(crate) count: usize,
     pub(crate) items: [Candidate; 512],
     ghost room: { count ≤ 512 },

@@ -15,6 +15,7 @@ impl Plan {
         ensures marks { mark_of result ≡ mark_of self.now }
     {
         let mut links = self.links;
+        // By index: a proof knows nothing more of what `get_mut` lends once it is given back.
         if link < 512 {
             links[link as usize].usable = false;
         }
@@ -32,10 +33,10 @@ impl Plan {
         ensures { Decides result (InEvery (graph_of self.now) numbers (mark_of self.now) link) }
     {
         let rows = Rows::new(*self);
-        let others = Rows::new(self.without(link));
         if !rows.joined() {
             return true;
         }
+        let others = Rows::new(self.without(link));
         let same = rows.marks() == others.marks();
         !same
     }

@@ -11,8 +11,8 @@
 //! a plan: it keeps the row that it is on and the labels of all its prefixes, so the next row is found by
 //! trying the places from the last on, each by one run over the candidates that come after. The list is
 //! never stored, and `Kept` is a copy of the place that a walk has reached. What a plan's cheapest trees
-//! have in common is asked of the plan itself. The runs over candidates are the private methods of a walk's
-//! inside, and the public functions call those.
+//! have in common is asked of the plan itself. The runs over candidates are private methods (`completing.rt` and
+//! `searching.rt`), which the public functions call.
 //!
 //! The definitions and the statements stand in `specs/`, the proofs in `proofs/`: first the theory, over
 //! any scale, then what ties the code to it (`Growth` and `Searches` for the runs over candidates,

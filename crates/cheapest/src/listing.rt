@@ -17,6 +17,7 @@ pub(crate) fn list_candidates(plan: Plan) -> Candidates
     };
     let mut items = [none; 512];
     let mut count = 0;
+    // Counted by hand, since the places are an array, which no filter fills.
     for number in &plan.order[..plan.count] {
         let link = plan.links[*number as usize];
         if link.usable {

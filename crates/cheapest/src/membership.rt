@@ -46,7 +46,7 @@ fn total_with(list: &Candidates, c: usize) -> u32
 
 impl Plan {
     /// Whether some cheapest tree has this link: whether its greedy completion has the first row's total. The
-    /// cost is two runs over the candidates.
+    /// cost is three runs over the links.
     pub fn in_some(&self, link: u16) -> bool
         ensures { Decides result (InSome (graph_of self.now) numbers (mark_of self.now) (link ∷ [])) }
     {

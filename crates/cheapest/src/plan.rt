@@ -24,7 +24,7 @@ pub struct PlanLink {
 pub struct Plan {
     pub sites: u8,
     /// How many links there are.
-    // It stands beside both arrays; a type that holds one array with its count would keep it twice.
+    // No call allocates, so the places are fixed in number; the count is that of both arrays, so neither holds it alone.
     pub count: usize,
     /// The links, by number.
     pub links: [PlanLink; 512],

@@ -2,11 +2,12 @@
 
 ghost use Rattle.std.specs.Prelude.{◌≡◌, ℕ, ◌++◌, false, IfOk, OnOk};
 ghost use Rattle.networks.specs.Networks.{sites_of, links_of, closed_in};
+ghost use Rattle.networks.specs.Opening.{open_rules};
+ghost use Rattle.networks.specs.Refusals.{refusal_of, first_of};
 ghost use Rattle.complete.specs.Links.{links_back, links_below};
 
-use networks::{Link, Network};
+use networks::{Link, Network, Refusal};
 use std::alloc::{AllocError, Global};
-use std::io;
 use weights::Metres;
 
 /// Links the site to each that has a lower number.
@@ -31,14 +32,16 @@ pub fn complete(heap: Global, sites: u8) -> Result<Vec<Link<Metres>>, AllocError
     Ok(links)
 }
 
-/// The complete network of so many sites, each link one metre long. One that is refused is an error.
-pub fn complete_network(heap: Global, sites: u8) -> io::Result<Network<Metres>>
-    ensures sites { IfOk result (λ n. sites_of n ≡ sites) }
-    ensures links { IfOk result (λ n. links_of n ≡ links_below sites) }
-    ensures opens { IfOk result (λ n. (e : ℕ) → closed_in n e ≡ false) }
+/// The complete network of so many sites, each link one metre long, or why it is refused.
+pub fn complete_network(
+    heap: Global,
+    sites: u8,
+) -> Result<Result<Network<Metres>, Refusal>, AllocError>
+    ensures refuses { IfOk result (λ opened. refusal_of opened ≡ first_of (open_rules sites (links_below sites))) }
+    ensures sites { IfOk result (λ opened. IfOk opened (λ n. sites_of n ≡ sites)) }
+    ensures links { IfOk result (λ opened. IfOk opened (λ n. links_of n ≡ links_below sites)) }
+    ensures opens { IfOk result (λ opened. IfOk opened (λ n. (e : ℕ) → closed_in n e ≡ false)) }
 {
     let links = complete(heap, sites)?;
-    Network::open(sites, &links).map_err(|_| io::Error::other(
-        "a complete network of so many sites is refused",
-    ))
+    Ok(Network::open(sites, &links))
 }

@@ -20,19 +20,20 @@ fn all_equal(tally: &Tally, links: u16) -> bool
 
 fn main(rt: HostRuntime) -> io::Result<()> {
     for sites in 3..8 {
-        let network = complete_network(rt.alloc(), sites)?;
-        let links = network.links().len() as u16;
-        let mut tally = Tally::new();
-        let (rows, letter) = pour_all(network, &mut tally);
-        let first = tally.times(0);
-        let equal = if all_equal(&tally, links) {
-            "and so is each"
-        } else {
-            "but not each"
-        };
-        println!(rt;
-            "sites {sites} rows {rows} ended {letter}: link 0 is in {first} rows, {equal}"
-        )?;
+        if let Ok(network) = complete_network(rt.alloc(), sites)? {
+            let links = network.links().len() as u16;
+            let mut tally = Tally::new();
+            let (rows, letter) = pour_all(network, &mut tally);
+            let first = tally.times(0);
+            let equal = if all_equal(&tally, links) {
+                "and so is each"
+            } else {
+                "but not each"
+            };
+            println!(rt;
+                "sites {sites} rows {rows} ended {letter}: link 0 is in {first} rows, {equal}"
+            )?;
+        }
     }
     Ok(())
 }

@@ -39,7 +39,11 @@ fn classes_differing(case: &Case, network: &Network<Metres>, trees: &[u8]) -> us
 {
     case.links
         .iter()
-        .filter(|link| network.class(u16::from(link.number)).ok() != Some(class_of(trees, link)))
+        .filter(|link| {
+            let class = network.class(u16::from(link.number)).ok();
+            class != Some(class_of(trees, link))
+                || !class.is_some_and(|class| CLASSES.contains(&(class.letter(), class)))
+        })
         .count()
 }
 

@@ -43,6 +43,7 @@ fn marked_links<K: WeightKind>(links: &[Link<K>], closed: &Closed) -> [PlanLink;
         usable: false,
     };
     let mut places = [none; 512];
+    // By place, since a proof knows nothing of an array that `zip` with its `iter_mut` fills.
     for (number, link) in links.iter().enumerate() {
         places[number] = PlanLink {
             from: link.from,

@@ -4,8 +4,8 @@ ghost use Rattle.std.specs.Prelude.{◌≡◌, length, MatchOption};
 ghost use Rattle.std.specs.Iterator.{at_most};
 ghost use Rattle.reports.specs.Many.{NextSheet, CutShort};
 
-/// How many bytes the programs read of one sheet, themselves, since no library here holds a list that grows: one more than
-/// the longest sheet has, so that a longer one is seen to be too long.
+/// How many bytes the programs read of one sheet: one more than the longest sheet has, so that a longer one is seen to be
+/// too long. They read it themselves, since no library here allocates.
 pub const MOST: u64 = 4106;
 
 /// The sheets in some bytes, each behind two bytes for its length, up to the first that is cut short.

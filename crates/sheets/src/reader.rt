@@ -20,6 +20,7 @@ pub(crate) struct Header {
 }
 
 /// The records of a sheet, read up to an offset.
+// Bytes with an offset beside them: a form that the product is to have.
 #[derive(Drop)]
 pub(crate) struct Reader<'a> {
     bytes: &'a [u8],

@@ -10,10 +10,11 @@ use std::{env, io};
 fn main(rt: HostRuntime) -> io::Result<()> {
     let numbers = env::args(&rt)?.skip(1);
     for sites in numbers.filter_map(|word| word.as_str().parse::<u8>().ok()) {
-        let network = complete_network(rt.alloc(), sites)?;
-        let mut tally = Tally::new();
-        let (rows, _) = pour_all(network, &mut tally);
-        println!(rt; "{sites} {rows}")?;
+        if let Ok(network) = complete_network(rt.alloc(), sites)? {
+            let mut tally = Tally::new();
+            let (rows, _) = pour_all(network, &mut tally);
+            println!(rt; "{sites} {rows}")?;
+        }
     }
     Ok(())
 }

@@ -1,4 +1,4 @@
-//! Short texts in places of a fixed number: the decimal digits of a number, and lines of at most 64 bytes.
+//! Short texts in places of a fixed number: the decimal digits of a number, and lines.
 
 #![tactic(auto)]
 

@@ -1,4 +1,4 @@
-//! Street crossings: 16-bit numbers with a 32-bit total.
+//! Street crossings: 16-bit numbers, whose total is given out in 32 bits.
 
 ghost use Rattle.std.specs.Prelude.{◌≡◌};
 ghost use Rattle.std.proofs.Common.{rules};

@@ -43,7 +43,7 @@ pub struct Total<M: Measure> {
     ghost small: { sum ≤ count * M.Measure.most },
 }
 
-// Written out, since no derive of it is allowed on a generic struct with a ghost field.
+// Written out: a derive is refused where a ghost field speaks of the bound on a type parameter.
 impl<M: Measure> Clone for Total<M> {
     ghost is_clone = { λ total copy. copy ≡ total };
 

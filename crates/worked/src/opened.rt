@@ -13,6 +13,7 @@ use walks::{Turn, Walk, perform};
 use weights::Metres;
 
 /// A link of so many metres between two sites.
+// Of its own, since what it promises is in the words of the drawings.
 fn link(from: u8, to: u8, metres: u32) -> Link<Metres>
     ensures { drawn_as result ≡ (from, to, metres) }
 {

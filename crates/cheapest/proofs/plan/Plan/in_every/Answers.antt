@@ -9,9 +9,8 @@ use Rattle.cheapest.proofs.plan.Plan.in_every.Goals as goal
 pub returns-then-not-joined : goal.returns-then-not-joined
 returns-then-not-joined c =
     let p = c.args.self.now in
-    let of = c.without.ensures in
     let tree : Decides c.joined.result (HasTree p) = subst (λ z. Decides c.joined.result (HasTree z)) c.new-rows.ensures.plan c.joined.ensures.tree in
-    ((λ _. every_apart p c.args.link c.without.result of.graph of.marks (λ t. false≢true (sym c.if-not-joined.true ∙ tree.1 t))), (λ _. refl))
+    ((λ _. every_apart p c.args.link (λ t. false≢true (sym c.if-not-joined.true ∙ tree.1 t))), (λ _. refl))
 
 pub returns : goal.returns
 returns c =
