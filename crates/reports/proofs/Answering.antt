@@ -5,7 +5,7 @@ use Rattle.networks.specs.declared.links.Link.{Link}
 use Rattle.networks.specs.declared.networks.Network.{Network}
 use Rattle.networks.specs.declared.refusals.Refusal.{Refusal}
 use Rattle.networks.specs.declared.refusals.Report.{Report}
-use Rattle.sheets.specs.declared.reading.Counts.{Counts}
+use Rattle.reports.specs.declared.answers.Contents.{Contents}
 use Rattle.reports.specs.Answers.{AnswersKind, AnswersAs, counted, told_of}
 use Rattle.reports.specs.Judging.{NetworkOf, RefusedWith, Loads}
 use Rattle.reports.specs.Kinds.{form_of}
@@ -23,10 +23,10 @@ module _ {K : Type 0} where
   refused (Err e) report same = same
 
 -- the answer to a sheet, loaded as the kind that is asked for
-pub answers_as : (kind asked : Kind) → asked ≡ kind → (sheet : List ℕ) (r : Result (Network (form_of kind).Weight) Refusal) (a : Result Counts Refusal)
+pub answers_as : (kind asked : Kind) → asked ≡ kind → (sheet : List ℕ) (r : Result (Network (form_of kind).Weight) Refusal) (a : Result Contents Refusal)
     → Loads (form_of kind).letter (form_of kind).width (form_of kind).bytes sheet r → a ≡ told_of r → AnswersAs asked sheet a
 answers_as kind asked same sheet r a loads is =
     let form = form_of kind in
     subst (λ (k : Kind). AnswersAs k sheet a) (sym same)
-    (subst (λ (b : Result Counts Refusal). AnswersKind form.letter form.width form.bytes sheet b) (sym is)
+    (subst (λ (b : Result Contents Refusal). AnswersKind form.letter form.width form.bytes sheet b) (sym is)
     (judged form.letter form.width form.bytes sheet _ _ _ _ (sound r) (refused r) loads))

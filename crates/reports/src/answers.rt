@@ -1,7 +1,6 @@
 //! The kinds of sheet that are told apart, and the answer to a sheet.
 
 use networks::Refusal;
-use sheets::Counts;
 
 /// How a sheet is read.
 #[derive(Clone, Copy, PartialEq, Eq, Debug)]
@@ -12,5 +11,12 @@ pub enum Kind {
     CrossingsMetres,
 }
 
+/// How many sites and links a sheet has.
+#[derive(Clone, Copy, PartialEq, Eq, Debug)]
+pub struct Contents {
+    pub sites: u8,
+    pub links: usize,
+}
+
 /// The answer to a sheet: how many sites and links it has, or why it is refused.
-pub type Answer = Result<Counts, Refusal>;
+pub type Answer = Result<Contents, Refusal>;

@@ -12,7 +12,7 @@ mod shown;
 pub mod sinks;
 mod totals;
 
-pub use answers::{Answer, Kind};
+pub use answers::{Answer, Contents, Kind};
 pub use lines::{answer, kind_of, line};
 pub use many::{MOST, Sheets};
 pub use reporting::report;

@@ -5,10 +5,9 @@ ghost use Rattle.networks.specs.Refusals.{line_of};
 ghost use Rattle.texts.specs.Lines.{line_bytes};
 ghost use Rattle.reports.specs.Answers.{kind_of, told_of, Answers, line_of_answer, sound_line};
 
-use crate::answers::{Answer, Kind};
+use crate::answers::{Answer, Contents, Kind};
 use crate::loading::{counts, load_as};
 use networks::{Network, Refusal, Report};
-use sheets::Counts;
 use texts::Line;
 use weights::{Crossings, Metres, Pair, WeightKind};
 
@@ -51,7 +50,7 @@ pub fn line(answer: &Answer) -> Line
 }
 
 // The lines are put together by hand: `write!` promises its text only where it succeeds, and no contract says that it does.
-fn sound_line(counts: Counts) -> Line
+fn sound_line(counts: Contents) -> Line
     ensures { line_bytes result ≡ sound_line counts.sites counts.links }
 {
     let mut line = Line::new();

@@ -4,8 +4,9 @@ ghost use Rattle.std.specs.Prelude.{◌≡◌};
 ghost use Rattle.reports.specs.Answers.{counts_of};
 ghost use Rattle.reports.specs.Judging.{Loads};
 
+use crate::answers::Contents;
 use networks::{Link, Network, Refusal};
-use sheets::{Counts, SheetKind, load};
+use sheets::{SheetKind, load};
 use weights::WeightKind;
 
 /// Loads the sheet as a network of one kind. Callers name the kind where it is known: code over every kind would have to
@@ -23,11 +24,11 @@ pub(crate) fn load_as<K: SheetKind>(sheet: &[u8]) -> Result<Network<K>, Refusal>
 }
 
 /// How many sites and links a network has.
-pub(crate) fn counts<K: WeightKind>(network: &Network<K>) -> Counts
+pub(crate) fn counts<K: WeightKind>(network: &Network<K>) -> Contents
     ensures { result ≡ counts_of network.now }
 {
-    Counts {
+    Contents {
         sites: network.sites(),
-        links: network.links().len() as u16,
+        links: network.links().len(),
     }
 }
