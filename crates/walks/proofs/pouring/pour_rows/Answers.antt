@@ -1,4 +1,4 @@
-use Rattle.std.proofs.Common.{◌≡◌, refl, ◌∙◌, subst, arith}
+use Rattle.std.proofs.Common.{◌≡◌, subst, arith}
 use Rattle.receivers.proofs.Serving.{serves_same, serves_then}
 use Rattle.walks.proofs.Poured.{Taken, taken_none, taken_more, taken_ends, taken_all}
 use Rattle.walks.proofs.pouring.pour_rows.Goals as goal

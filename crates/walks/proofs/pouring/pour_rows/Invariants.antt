@@ -1,4 +1,3 @@
-use Rattle.std.proofs.Common.{◌≡◌}
 use Rattle.receivers.specs.Rules.{Serves}
 use Rattle.walks.proofs.Poured.{Taken}
 use Rattle.walks.proofs.pouring.pour_rows.Given as goal
