@@ -3,6 +3,7 @@ use Rattle.std.proofs.Common.{◌≡◌, ℕ, List, [], ◌∷◌, ◌++◌, Ok,
 use Rattle.std.specs.Result.{IsOkAnd}
 use Rattle.std.proofs.lemmas.Option.{none-some, same_Some}
 use Rattle.weights.specs.Scales.{Weighing}
+use Rattle.weights.specs.declared.kinds.WeightKind.{Ghosts}
 use Rattle.networks.specs.Refusals.{report_of, line_of}
 use Rattle.networks.specs.declared.links.Link.{Link}
 use Rattle.networks.specs.declared.networks.Network.{Network}
@@ -28,14 +29,14 @@ module _ {K : Type 0} (kind : Weighing K) (shown : kind.scale.Amount → List �
   refused (Err e) prints report same = prints ∙ ap (λ (x : Told). line_of x ++ (10 ∷ [])) (same_Some (report_of e) report same)
 
 -- what was loaded is what is walked through
-pub through : {K : Type 0} (r : Result (Network K) Refusal) (b : Result (Walk K) Refusal) (Begins : Network K → Walk K → Type 0) → ((n : Network K) (w : Walk K) → Begins n w → network_of w ≡ n)
+pub through : {K T : Type 0} {kind : Ghosts K T} (r : Result (Network K) Refusal) (b : Result (Walk K T kind) Refusal) (Begins : Network K → Walk K T kind → Type 0) → ((n : Network K) (w : Walk K T kind) → Begins n w → network_of w ≡ n)
     → MatchResult r (λ n. IsOkAnd b (Begins n)) (λ e. b ≡ Err e) → walked_through b ≡ r
 through (Ok n) (Ok w) Begins same h = ap (λ (n : Network _). Ok n) (same n w h)
 through (Ok n) (Err e) Begins same h = absurd h
 through (Err e) b Begins same h = ap walked_through h
 
 -- the report of a sheet, loaded as the kind that is asked for
-pub reports_as : {S : Type 0} (took : S → List ℕ → S → Type 0) (start end : S) (kind asked : Kind) → asked ≡ kind → (sheet : List ℕ) (r : Result (Network (form_of kind).Weight) Refusal) (b : Result (Walk (form_of kind).Weight) Refusal)
+pub reports_as : {S : Type 0} (took : S → List ℕ → S → Type 0) (start end : S) (kind asked : Kind) → asked ≡ kind → (sheet : List ℕ) {T : Type 0} {walked : Ghosts (form_of kind).Weight T} (r : Result (Network (form_of kind).Weight) Refusal) (b : Result (Walk (form_of kind).Weight T walked) Refusal)
     → Loads (form_of kind).letter (form_of kind).width (form_of kind).bytes sheet r → walked_through b ≡ r
     → (text : List ℕ) × PrintsLoaded (form_of kind).weighing (form_of kind).shown (walked_through b) text × PutOut took start text end → PutsReport took asked sheet start end
 reports_as took start end kind asked same sheet r b loads walked (text, prints, put) =

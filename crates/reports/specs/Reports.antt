@@ -5,6 +5,7 @@ use Rattle.networks.specs.declared.networks.Network.{Network}
 use Rattle.networks.specs.declared.refusals.Refusal.{Refusal}
 use Rattle.networks.specs.declared.refusals.Report.{Report as Told}
 use Rattle.weights.specs.Scales.{Weighing}
+use Rattle.weights.specs.declared.kinds.WeightKind.{Ghosts}
 use Rattle.walks.specs.Walks.{network_of}
 use Rattle.walks.specs.declared.walks.Walk.{Walk}
 use Rattle.reports.specs.Answers.{kind_of}
@@ -19,7 +20,7 @@ abbrev pub RefusedText : List ℕ → Told → Type 0
 RefusedText text report = text ≡ line_of report ++ (10 ∷ [])
 
 -- what was loaded, where its network is walked through
-abbrev pub walked_through : {K : Type 0} → Result (Walk K) Refusal → Result (Network K) Refusal
+abbrev pub walked_through : {K T : Type 0} {kind : Ghosts K T} → Result (Walk K T kind) Refusal → Result (Network K) Refusal
 walked_through (Ok walk) = Ok (network_of walk)
 walked_through (Err e) = Err e
 
@@ -55,5 +56,5 @@ module _ {K : Type 0} (kind : Weighing K) {T : Type 0} (text : T → List ℕ) (
   PutsNetwork n = PutsShown (λ shown all. Report kind shown n all)
 
   -- the report of the network that was loaded and is walked through, or the line of the refusal
-  abbrev pub PutsLoaded : Result (Walk K) Refusal → S → S → Type 0
+  abbrev pub PutsLoaded : {U : Type 0} {walked : Ghosts K U} → Result (Walk K U walked) Refusal → S → S → Type 0
   PutsLoaded r = PutsShown (λ shown all. PrintsLoaded kind shown (walked_through r) all)

@@ -1,7 +1,7 @@
 //! The report of a sheet, put out part by part.
 
 ghost use Rattle.std.specs.Prelude.{◌≡◌, ℕ, ◌<◌, List, [], ◌∷◌, ◌++◌, None, IfOk};
-ghost use Rattle.walks.specs.Walks.{network_of, place_of, Begun};
+ghost use Rattle.walks.specs.Walks.{network_of, place_of};
 ghost use Rattle.reports.specs.Answers.{kind_of, line_of_answer};
 ghost use Rattle.reports.specs.Listing.{last_line};
 ghost use Rattle.reports.specs.Reports.{PutsReport, PutsLoaded, PutsNetwork};
@@ -37,7 +37,7 @@ pub fn report<S: Sink>(sheet: &[u8], out: &mut S)
 
 /// Puts the report out of what was loaded, and walked through where it is a network.
 fn report_loaded<K: Shown, S: Sink>(loaded: Result<Walk<K>, Refusal>, out: &mut S)
-    requires { IfOk loaded (λ walk. (Begun K.WeightKind.weighing walk) × (place_of walk ≡ None)) }
+    requires { IfOk loaded (λ walk. place_of walk ≡ None) }
     ensures { PutsLoaded K.WeightKind.weighing K.Shown.text K.WeightKind.sum S.Sink.took loaded out.old out.new }
 {
     match loaded {
@@ -48,8 +48,7 @@ fn report_loaded<K: Shown, S: Sink>(loaded: Result<Walk<K>, Refusal>, out: &mut 
 
 /// Puts the report of the network that is walked through out.
 fn report_walk<K: Shown, S: Sink>(mut walk: Walk<K>, out: &mut S)
-    requires begun { Begun K.WeightKind.weighing walk }
-    requires before { place_of walk ≡ None }
+    requires { place_of walk ≡ None }
     ensures { PutsNetwork K.WeightKind.weighing K.Shown.text K.WeightKind.sum S.Sink.took (network_of walk) out.old out.new }
 {
     put_answer(out, Ok(counts(walk.network())));

@@ -11,7 +11,7 @@ use weights::WeightKind;
 
 /// The total of each of so many rows, where the walk is on a row if there is one.
 pub(crate) fn total_each<K: WeightKind>(walk: &Walk<K>, count: u32) -> Option<K::Total>
-    ensures { EachOf K.WeightKind.weighing K.WeightKind.sum walk.now count result }
+    ensures { EachOf walk.now count result }
 {
     if count == 0 {
         return None;

@@ -1,8 +1,10 @@
 //! Street crossings: 16-bit numbers, whose total is given out in 32 bits.
 
 ghost use Rattle.std.specs.Prelude.{◌≡◌};
+ghost use Rattle.weights.specs.Weighings.{by_crossings};
 ghost use Rattle.std.proofs.Common.{rules};
 
+use crate::kinds::WeightKind;
 use crate::measures::{Measure, Total};
 
 /// A number of crossings.
@@ -36,5 +38,49 @@ impl Measure for Crossings {
 
     fn least() -> Crossings {
         Crossings(0)
+    }
+}
+
+// Not one implementation for every measure: that would fit a pair too, as far as the check can tell, and then no walk
+// through a network of pairs could be proved. What is more than a line is written once, for totals.
+impl WeightKind for Crossings {
+    ghost weighing = { by_crossings };
+
+    type Total = Total<Crossings>;
+
+    ghost held = { λ t. t.count };
+
+    ghost level = { λ _. Unit {0} };
+
+    ghost sum = { λ t. t.sum };
+
+    ghost lawful = { Prim.search rules };
+
+    ghost single = { Prim.search rules };
+
+    ghost few = { Prim.search rules };
+
+    fn at_most(&self, other: &Crossings) -> bool {
+        self.0 <= other.0
+    }
+
+    fn zero() -> Crossings {
+        Crossings::least()
+    }
+
+    fn nothing() -> Total<Crossings> {
+        Total::nothing()
+    }
+
+    fn count(total: &Total<Crossings>) -> u8 {
+        total.count
+    }
+
+    fn add(total: &mut Total<Crossings>, weight: Crossings) {
+        total.add(weight);
+    }
+
+    fn total_at_most(first: &Total<Crossings>, second: &Total<Crossings>) -> bool {
+        first.sum <= second.sum
     }
 }

@@ -1,10 +1,8 @@
 //! Weights that are plain numbers, and their total.
 
-ghost use Rattle.std.specs.Prelude.{◌≡◌, ℕ, ◌*◌, ◌≤◌};
-ghost use Rattle.weights.specs.Weighings.{measured};
+ghost use Rattle.std.specs.Prelude.{◌≡◌, ℕ, ◌+◌, ◌*◌, ◌<◌, ◌≤◌};
 ghost use Rattle.std.proofs.Common.{rules};
 
-use crate::kinds::WeightKind;
 use std::alloc::AllocError;
 use std::marker::PhantomData;
 
@@ -36,7 +34,7 @@ pub trait Measure: Copy {
 #[derive(Copy)]
 #[derive_where(PartialEq, Eq, Debug)]
 pub struct Total<M: Measure> {
-    count: u8,
+    pub(crate) count: u8,
     pub(crate) sum: u64,
     of: PhantomData<M>,
     ghost few: { count ≤ 63 },
@@ -54,32 +52,12 @@ impl<M: Measure> Clone for Total<M> {
     }
 }
 
-impl<M: Measure> WeightKind for M {
-    ghost weighing = { measured M.Measure.value };
-
-    type Total = Total<M>;
-
-    ghost held = { λ t. t.count };
-
-    ghost level = { λ _. Unit {0} };
-
-    ghost sum = { λ t. t.sum };
-
-    ghost lawful = { Prim.search rules };
-
-    ghost single = { M.Measure.apart };
-
-    ghost few = { Prim.search rules };
-
-    fn at_most(&self, other: &M) -> bool {
-        self.number() <= other.number()
-    }
-
-    fn zero() -> M {
-        M::least()
-    }
-
-    fn nothing() -> Total<M> {
+impl<M: Measure> Total<M> {
+    /// The total of no weights.
+    pub(crate) fn nothing() -> Total<M>
+        ensures count { result.count ≡ 0 }
+        ensures sum { result.sum ≡ 0 }
+    {
         Total {
             count: 0,
             sum: 0,
@@ -87,21 +65,18 @@ impl<M: Measure> WeightKind for M {
         }
     }
 
-    fn count(total: &Total<M>) -> u8 {
-        total.count
-    }
-
-    fn add(total: &mut Total<M>, weight: M) {
-        if total.count < 63 {
-            *total = Total {
-                count: total.count + 1,
-                sum: total.sum + u64::from(weight.number()),
+    /// Adds a weight; a 64th leaves the total unaltered.
+    pub(crate) fn add(&mut self, weight: M)
+        ensures counts { self.old.count < 63 → self.new.count ≡ self.old.count + 1 }
+        ensures adds { self.old.count < 63 → self.new.sum ≡ self.old.sum + M.Measure.value weight }
+        ensures full { 63 ≤ self.old.count → self.new ≡ self.old }
+    {
+        if self.count < 63 {
+            *self = Total {
+                count: self.count + 1,
+                sum: self.sum + u64::from(weight.number()),
                 of: PhantomData,
             };
         }
-    }
-
-    fn total_at_most(first: &Total<M>, second: &Total<M>) -> bool {
-        first.sum <= second.sum
     }
 }

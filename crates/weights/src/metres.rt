@@ -1,8 +1,10 @@
 //! Metres of trench: 32-bit numbers with a 64-bit total.
 
 ghost use Rattle.std.specs.Prelude.{◌≡◌};
+ghost use Rattle.weights.specs.Weighings.{by_metres};
 ghost use Rattle.std.proofs.Common.{rules};
 
+use crate::kinds::WeightKind;
 use crate::measures::{Measure, Total};
 
 /// A length in metres.
@@ -36,5 +38,49 @@ impl Measure for Metres {
 
     fn least() -> Metres {
         Metres(0)
+    }
+}
+
+// Not one implementation for every measure: that would fit a pair too, as far as the check can tell, and then no walk
+// through a network of pairs could be proved. What is more than a line is written once, for totals.
+impl WeightKind for Metres {
+    ghost weighing = { by_metres };
+
+    type Total = Total<Metres>;
+
+    ghost held = { λ t. t.count };
+
+    ghost level = { λ _. Unit {0} };
+
+    ghost sum = { λ t. t.sum };
+
+    ghost lawful = { Prim.search rules };
+
+    ghost single = { Prim.search rules };
+
+    ghost few = { Prim.search rules };
+
+    fn at_most(&self, other: &Metres) -> bool {
+        self.0 <= other.0
+    }
+
+    fn zero() -> Metres {
+        Metres::least()
+    }
+
+    fn nothing() -> Total<Metres> {
+        Total::nothing()
+    }
+
+    fn count(total: &Total<Metres>) -> u8 {
+        total.count
+    }
+
+    fn add(total: &mut Total<Metres>, weight: Metres) {
+        total.add(weight);
+    }
+
+    fn total_at_most(first: &Total<Metres>, second: &Total<Metres>) -> bool {
+        first.sum <= second.sum
     }
 }
