@@ -1,7 +1,6 @@
 //! The pair of any two weight kinds: the first side decides, and the second where the first sides are equal.
 
 ghost use Rattle.std.specs.Prelude.{◌≡◌, max};
-ghost use Rattle.weights.specs.Amounts.{lexed};
 ghost use Rattle.weights.specs.PairLaws.{pairs_lawful};
 ghost use Rattle.weights.specs.Weighings.{paired};
 ghost use Rattle.std.proofs.Common.{rules};
@@ -38,14 +37,6 @@ impl<A: Copy, B: Copy> PairTotal<A, B> {
     }
 }
 
-/// Whether one pair is at most another: `there` and `back` say whether the first sides are, this way and the other.
-// By hand, since weights of a kind are ordered by their amounts on its scale alone, and no derived order says that.
-fn first_decides(there: bool, back: bool, second: bool) -> bool
-    ensures { result ≡ lexed there back second }
-{
-    if there && back { second } else { there }
-}
-
 impl<P: WeightKind, Q: WeightKind> WeightKind for Pair<P, Q> {
     ghost weighing = { paired P.WeightKind.weighing Q.WeightKind.weighing };
 
@@ -64,11 +55,14 @@ impl<P: WeightKind, Q: WeightKind> WeightKind for Pair<P, Q> {
     ghost few = { Prim.search rules };
 
     fn at_most(&self, other: &Pair<P, Q>) -> bool {
-        first_decides(
-            self.first.at_most(&other.first),
-            other.first.at_most(&self.first),
-            self.second.at_most(&other.second),
-        )
+        // By hand, since weights of a kind are ordered by their amounts on its scale alone, and no derived order says that.
+        // The second sides are compared only where they decide, so that pairs of pairs cost no more than they must.
+        let there = self.first.at_most(&other.first);
+        if there && other.first.at_most(&self.first) {
+            self.second.at_most(&other.second)
+        } else {
+            there
+        }
     }
 
     fn zero() -> Pair<P, Q> {
@@ -100,10 +94,11 @@ impl<P: WeightKind, Q: WeightKind> WeightKind for Pair<P, Q> {
         first: &PairTotal<P::Total, Q::Total>,
         second: &PairTotal<P::Total, Q::Total>,
     ) -> bool {
-        first_decides(
-            P::total_at_most(&first.firsts, &second.firsts),
-            P::total_at_most(&second.firsts, &first.firsts),
-            Q::total_at_most(&first.seconds, &second.seconds),
-        )
+        let there = P::total_at_most(&first.firsts, &second.firsts);
+        if there && P::total_at_most(&second.firsts, &first.firsts) {
+            Q::total_at_most(&first.seconds, &second.seconds)
+        } else {
+            there
+        }
     }
 }
