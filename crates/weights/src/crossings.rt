@@ -19,7 +19,7 @@ impl Total<Crossings> {
     pub fn crossings(&self) -> u32
         ensures { result ≡ self.now.sum }
     {
-        self.sum as u32
+        self.sum() as u32
     }
 }
 
@@ -73,7 +73,7 @@ impl WeightKind for Crossings {
     }
 
     fn count(total: &Total<Crossings>) -> u8 {
-        total.count
+        total.count()
     }
 
     fn add(total: &mut Total<Crossings>, weight: Crossings) {
@@ -81,6 +81,6 @@ impl WeightKind for Crossings {
     }
 
     fn total_at_most(first: &Total<Crossings>, second: &Total<Crossings>) -> bool {
-        first.sum <= second.sum
+        first.sum() <= second.sum()
     }
 }

@@ -34,8 +34,8 @@ pub trait Measure: Copy {
 #[derive(Copy)]
 #[derive_where(PartialEq, Eq, Debug)]
 pub struct Total<M: Measure> {
-    pub(crate) count: u8,
-    pub(crate) sum: u64,
+    count: u8,
+    sum: u64,
     of: PhantomData<M>,
     ghost few: { count ≤ 63 },
     ghost small: { sum ≤ count * M.Measure.most },
@@ -54,7 +54,7 @@ impl<M: Measure> Clone for Total<M> {
 
 impl<M: Measure> Total<M> {
     /// The total of no weights.
-    pub(crate) fn nothing() -> Total<M>
+    pub fn nothing() -> Total<M>
         ensures count { result.count ≡ 0 }
         ensures sum { result.sum ≡ 0 }
     {
@@ -65,8 +65,22 @@ impl<M: Measure> Total<M> {
         }
     }
 
+    /// How many weights were added.
+    pub fn count(&self) -> u8
+        ensures { result ≡ self.now.count }
+    {
+        self.count
+    }
+
+    /// The sum of their numbers.
+    pub fn sum(&self) -> u64
+        ensures { result ≡ self.now.sum }
+    {
+        self.sum
+    }
+
     /// Adds a weight; a 64th leaves the total unaltered.
-    pub(crate) fn add(&mut self, weight: M)
+    pub fn add(&mut self, weight: M)
         ensures counts { self.old.count < 63 → self.new.count ≡ self.old.count + 1 }
         ensures adds { self.old.count < 63 → self.new.sum ≡ self.old.sum + M.Measure.value weight }
         ensures full { 63 ≤ self.old.count → self.new ≡ self.old }

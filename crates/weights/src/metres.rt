@@ -19,7 +19,7 @@ impl Total<Metres> {
     pub fn metres(&self) -> u64
         ensures { result ≡ self.now.sum }
     {
-        self.sum
+        self.sum()
     }
 }
 
@@ -73,7 +73,7 @@ impl WeightKind for Metres {
     }
 
     fn count(total: &Total<Metres>) -> u8 {
-        total.count
+        total.count()
     }
 
     fn add(total: &mut Total<Metres>, weight: Metres) {
@@ -81,6 +81,6 @@ impl WeightKind for Metres {
     }
 
     fn total_at_most(first: &Total<Metres>, second: &Total<Metres>) -> bool {
-        first.sum <= second.sum
+        first.sum() <= second.sum()
     }
 }
