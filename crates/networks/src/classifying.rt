@@ -1,6 +1,6 @@
 //! The class of a link, and how many links have a class.
 
-ghost use Rattle.std.specs.Prelude.{◌≡◌, [], ◌∷◌, length, Some, IfOk};
+ghost use Rattle.std.specs.Prelude.{◌≡◌, [], ◌∷◌, length, Some, Decides, IfOk};
 ghost use Rattle.weights.specs.Amounts.{numbers};
 ghost use Rattle.cheapest.specs.Plans.{graph_of, mark_of};
 ghost use Rattle.networks.specs.Classes.{HasClass, Counted, Reads, letter_of, link_asked, letter_asked};
@@ -73,6 +73,17 @@ fn class_in(plan: &Plan, link: u16) -> Class
     Class::Sometimes
 }
 
+/// Whether the link of the plan has this class. For `Never` it asks no more than whether some tree has the link.
+fn has_class(plan: &Plan, link: u16, class: Class) -> bool
+    ensures { Decides result (HasClass (graph_of plan.now) numbers (mark_of plan.now) link class) }
+{
+    match class {
+        Class::Never => !plan.in_some(link),
+        Class::Always => plan.in_some(link) && plan.in_every(link),
+        Class::Sometimes => plan.in_some(link) && !plan.in_every(link),
+    }
+}
+
 /// How many links of the plan have this class.
 fn count_in(plan: &Plan, class: Class) -> usize
     ensures { Counted (λ e. HasClass (graph_of plan.now) numbers (mark_of plan.now) e class) plan.now.count result }
@@ -80,7 +91,7 @@ fn count_in(plan: &Plan, class: Class) -> usize
     let mut count = 0;
     // By a loop: what a class is told by is a relation, and the count of a chain wants a function of the link.
     for link in 0..plan.count {
-        if class_in(plan, link as u16) == class {
+        if has_class(plan, link as u16, class) {
             count += 1;
         }
     }
@@ -88,6 +99,15 @@ fn count_in(plan: &Plan, class: Class) -> usize
 }
 
 impl<K: WeightKind> Network<K> {
+    /// How many links of the network have this class. Its letter tells it from the others.
+    fn count_of(&self, class: Class) -> usize
+        ensures always { letter_of class ≡ letter_of Always → Counted (λ e. HasClass (network_graph self.now) K.WeightKind.weighing.scale (weights_of K.WeightKind.weighing self.now) e Always) (length (links_of self.now)) result }
+        ensures sometimes { letter_of class ≡ letter_of Sometimes → Counted (λ e. HasClass (network_graph self.now) K.WeightKind.weighing.scale (weights_of K.WeightKind.weighing self.now) e Sometimes) (length (links_of self.now)) result }
+        ensures never { letter_of class ≡ letter_of Never → Counted (λ e. HasClass (network_graph self.now) K.WeightKind.weighing.scale (weights_of K.WeightKind.weighing self.now) e Never) (length (links_of self.now)) result }
+    {
+        count_in(&self.plan(), class)
+    }
+
     /// Whether a link can be tried: whether there is one of this number.
     pub fn can_try(&self, link: u16) -> Result<(), Refusal>
         ensures { refusal_of result ≡ first_of (link_asked (length (links_of self.now)) link) }
@@ -116,6 +136,6 @@ impl<K: WeightKind> Network<K> {
         ensures never { letter ≡ letter_of Never → IfOk result (λ k. Counted (λ e. HasClass (network_graph self.now) K.WeightKind.weighing.scale (weights_of K.WeightKind.weighing self.now) e Never) (length (links_of self.now)) k) }
     {
         let class = Class::try_from(letter)?;
-        Ok(count_in(&self.plan(), class))
+        Ok(self.count_of(class))
     }
 }

@@ -21,10 +21,27 @@ fn mark<K: WeightKind>(links: &[Link<K>], link: &Link<K>) -> usize
     ensures inside { result ≤ length links.now }
     ensures counts { result ≡ count_by (λ x. not (K.WeightKind.weighing.scale.le (K.WeightKind.weighing.amount link.now.weight) (K.WeightKind.weighing.amount x.weight))) links.now }
 {
+    // A sum of zeros and ones, since a filter branches on each link.
     links
         .iter()
-        .filter(|x| !link.weight.at_most(&x.weight))
-        .count()
+        .map(|x| usize::from(!link.weight.at_most(&x.weight)))
+        .sum()
+}
+
+/// A link with its mark, and whether it may be chosen.
+fn marked_link<K: WeightKind>(links: &[Link<K>], link: &Link<K>, usable: bool) -> PlanLink
+    requires { length links.now ≤ 512 }
+    ensures start { result.from ≡ link.now.from }
+    ensures end { result.to ≡ link.now.to }
+    ensures mark { result.mark ≡ count_by (λ x. not (K.WeightKind.weighing.scale.le (K.WeightKind.weighing.amount link.now.weight) (K.WeightKind.weighing.amount x.weight))) links.now }
+    ensures chosen { result.usable ≡ usable }
+{
+    PlanLink {
+        from: link.from,
+        to: link.to,
+        mark: mark(links, link) as u16,
+        usable,
+    }
 }
 
 /// The links with their marks, in the first of 512 places. Those that are open may be chosen.
@@ -45,12 +62,7 @@ fn marked_links<K: WeightKind>(links: &[Link<K>], closed: &Closed) -> [PlanLink;
     let mut places = [none; 512];
     // By place, since a proof knows nothing of an array that `zip` with its `iter_mut` fills.
     for (number, link) in links.iter().enumerate() {
-        places[number] = PlanLink {
-            from: link.from,
-            to: link.to,
-            mark: mark(links, link) as u16,
-            usable: closed.is_open(number as u16),
-        };
+        places[number] = marked_link(links, link, closed.is_open(number as u16));
     }
     places
 }
@@ -59,6 +71,15 @@ impl<K: WeightKind> Network<K> {
     /// The network's graph with a mark on each link: how many links have lower weight. So marks compare as the
     /// weights do. The cost grows with the square of the number of links.
     pub fn plan(&self) -> Plan
+        ensures graph { graph_of result ≡ network_graph self.now }
+        ensures alike { Alike numbers K.WeightKind.weighing.scale (mark_of result) (weights_of K.WeightKind.weighing self.now) (length (links_of self.now)) }
+        ensures marks { (e : ℕ) → e < length (links_of self.now) → mark_of result e ≡ lighter_than K.WeightKind.weighing.scale (weights_of K.WeightKind.weighing self.now) (length (links_of self.now)) e }
+    {
+        self.marked()
+    }
+
+    /// The plan, as `plan` gives it.
+    fn marked(&self) -> Plan
         ensures graph { graph_of result ≡ network_graph self.now }
         ensures alike { Alike numbers K.WeightKind.weighing.scale (mark_of result) (weights_of K.WeightKind.weighing self.now) (length (links_of self.now)) }
         ensures marks { (e : ℕ) → e < length (links_of self.now) → mark_of result e ≡ lighter_than K.WeightKind.weighing.scale (weights_of K.WeightKind.weighing self.now) (length (links_of self.now)) e }

@@ -32,14 +32,15 @@ fn write_first(plan: Plan, list: &mut [u16]) -> bool
     true
 }
 
-/// The plan with those links open that the record leaves open.
+/// The plan with those links open that the record leaves open. Places past its links have no open link, and stay so.
 fn reopened(plan: &Plan, closed: &Closed) -> Plan
+    requires { (e : ℕ) → plan.now.count ≤ e → (link_at plan.now.links e).usable ≡ false }
     ensures graph { graph_of result ≡ open_only closed.now (graph_of plan.now) }
     ensures marks { mark_of result ≡ mark_of plan.now }
 {
     let mut links = plan.links;
-    for (number, link) in links.iter_mut().enumerate() {
-        link.usable = number < plan.count && closed.is_open(number as u16);
+    for (number, link) in links[..plan.count].iter_mut().enumerate() {
+        link.usable = closed.is_open(number as u16);
     }
     Plan {
         sites: plan.sites,

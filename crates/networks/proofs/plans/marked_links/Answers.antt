@@ -2,7 +2,6 @@ use Rattle.std.proofs.Common.{◌≡◌, length, sym, refl, ap, ◌∙◌, arith
 use Rattle.std.proofs.lemmas.List.{length-set, get_or-map}
 use Rattle.std.proofs.lemmas.Bool.{lt-ltb}
 use Rattle.cheapest.specs.Places.{no_link}
-use Rattle.cheapest.specs.declared.plan.PlanLink.{PlanLink}
 use Rattle.networks.specs.Links.{open_below}
 use Rattle.networks.specs.declared.links.Link.{Link}
 use Rattle.networks.proofs.Filled.{filled_none, filled_more}
@@ -22,14 +21,14 @@ loop-number-preserved g c =
     let e = c.loop-number.number in
     let t = c.loop-number-test.true in
     let link = c.index-links-number.result in
-    let new : PlanLink = record { from = link.from; to = link.to; mark = c.mark.result; usable = c.is_open.result } in
+    let made = c.marked_link.ensures in
     let here = lt-ltb e (length links) t in
     let open_e : c.is_open.result ≡ open_below closed (length links) e = (let h = c.is_open.ensures in rw here h) in (
-      length-set c.loop-number.places e new ∙ c.loop-number.invariant.0,
-      filled_more no_link (marked k.weighing links closed) c.loop-number.places e new (let p = c.requires in let w = c.loop-number.invariant.0 in omega arith)
-          (same_link (ap (λ (x : Link g.row.K.Denot). x.from) c.index-links-number.is ∙ sym (get_or-map (λ x. x.from) links e link 0 t))
-          (ap (λ (x : Link g.row.K.Denot). x.to) c.index-links-number.is ∙ sym (get_or-map (λ x. x.to) links e link 0 t))
-          (c.mark.ensures.counts ∙ lighter k.weighing links link e c.index-links-number.is t) open_e)
+      length-set c.loop-number.places e c.marked_link.result ∙ c.loop-number.invariant.0,
+      filled_more no_link (marked k.weighing links closed) c.loop-number.places e c.marked_link.result (let p = c.requires in let w = c.loop-number.invariant.0 in omega arith)
+          (same_link (made.start ∙ ap (λ (x : Link g.row.K.Denot). x.from) c.index-links-number.is ∙ sym (get_or-map (λ x. x.from) links e link 0 t))
+          (made.end ∙ ap (λ (x : Link g.row.K.Denot). x.to) c.index-links-number.is ∙ sym (get_or-map (λ x. x.to) links e link 0 t))
+          (made.mark ∙ lighter k.weighing links link e c.index-links-number.is t) (made.chosen ∙ open_e))
           c.loop-number.invariant.1,
     )
 

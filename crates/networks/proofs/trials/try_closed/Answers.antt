@@ -1,14 +1,20 @@
 use Rattle.std.proofs.Common.{◌≡◌, ℕ, Bool, true, false, not, ◌&&◌, eqb, ltb, List, get_or, set, Decides, sym, refl, ap, ◌∙◌, subst}
+use Rattle.std.proofs.lemmas.Bool.{le-ltb, and_left}
 use Rattle.forests.specs.Graphs.{Graph, SitesJoined}
 use Rattle.weights.specs.Amounts.{numbers}
 use Rattle.cheapest.specs.Places.{link_at}
 use Rattle.cheapest.specs.Plans.{graph_of, mark_of}
-use Rattle.networks.specs.Closures.{states_of}
+use Rattle.networks.specs.Closures.{states_of, closed_at}
 use Rattle.networks.specs.Links.{open_below}
 use Rattle.networks.specs.Trials.{open_only, without, FirstWritten}
 use Rattle.networks.proofs.FirstRows.{put_back, closed_usable}
 use Rattle.networks.proofs.Inside.{same_graph}
 use Rattle.networks.proofs.trials.try_closed.Goals as goal
+
+pub reopened-requires : goal.reopened-requires
+reopened-requires c e past =
+    let n = c.args.plan.now.count in
+    c.requires.open e ∙ and_left (ltb e n) (not (closed_at c.args.closed.now e)) (le-ltb e n past)
 
 pub returns : goal.returns
 returns c =

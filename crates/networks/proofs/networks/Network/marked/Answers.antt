@@ -8,7 +8,7 @@ use Rattle.networks.specs.Links.{sound, from_of, to_of, weight_of, lighter_than,
 use Rattle.networks.specs.declared.links.Link.{Link}
 use Rattle.networks.proofs.Alike.{marks_alike}
 use Rattle.networks.proofs.Inside.{from_inside, to_inside, same_graph}
-use Rattle.networks.proofs.networks.Network.plan.Goals as goal
+use Rattle.networks.proofs.networks.Network.marked.Goals as goal
 
 pub invariant_of-result : goal.invariant_of-result
 invariant_of-result g c =
