@@ -15,7 +15,7 @@ spaced_short (n ∷ row) small =
     let digits = few_digits n (small zero) in
     omega (arith, length-append (32 ∷ decimal n) (spaced row))
 
-entries_short : (row : List ℕ) → ShortRow row → length (entries_of row) ≤ 377
+pub entries_short : (row : List ℕ) → ShortRow row → length (entries_of row) ≤ 377
 entries_short [] short = omega arith
 entries_short (n ∷ row) short =
     let rest = spaced_short row (λ i. short.1 (suc i)) in

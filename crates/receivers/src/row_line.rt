@@ -1,6 +1,6 @@
 //! The line of a row, put together from parts.
 
-ghost use Rattle.std.specs.Prelude.{◌≡◌, ◌≤◌, ◌∷◌, ◌++◌, length, decimal};
+ghost use Rattle.std.specs.Prelude.{◌≡◌, ◌<◌, ◌≤◌, ◌∷◌, ◌++◌, length, decimal};
 ghost use Rattle.texts.specs.Lines.{line_bytes};
 ghost use Rattle.receivers.specs.Writing.{spaced, entries_of, line_of};
 
@@ -48,13 +48,23 @@ fn put_entries(line: &mut RowLine, row: &[u16])
     }
 }
 
+/// A line with the entries of a row, which leaves room for its end.
+fn entries(row: &[u16]) -> RowLine
+    requires { length row.now ≤ MOST_ENTRIES }
+    ensures bytes { line_bytes result ≡ entries_of row.now }
+    ensures room { length (line_bytes result) < LONGEST_LINE }
+{
+    let mut line = RowLine::new();
+    put_entries(&mut line, row);
+    line
+}
+
 /// The line of a row.
 pub(crate) fn row_line(row: &[u16]) -> RowLine
     requires { length row.now ≤ MOST_ENTRIES }
     ensures { line_bytes result ≡ line_of row.now }
 {
-    let mut line = RowLine::new();
-    put_entries(&mut line, row);
+    let mut line = entries(row);
     line.put(b"\n");
     line
 }

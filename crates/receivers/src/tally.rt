@@ -53,7 +53,14 @@ impl Tally {
         ensures value { result ≡ times_in (tallied self.now) link }
         ensures few { result ≤ rows_in (tallied self.now) }
     {
-        match self.links.get(link as usize) {
+        self.count_at(link as usize)
+    }
+
+    /// The count at this place, 0 past the last.
+    fn count_at(&self, place: usize) -> u32
+        ensures { result ≡ slice_index (counts_of self.now) place }
+    {
+        match self.links.get(place) {
             Some(count) => count.times,
             None => 0,
         }

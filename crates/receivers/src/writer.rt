@@ -14,6 +14,7 @@ pub type TextWriter<'a> = Places<'a, u8>;
 
 /// How many places suffice for the line of any row of at most 63 entries, so that a text writer that holds nothing
 /// takes it.
+#[tactic(auto, using(crate::proofs::Lines::line_short))]
 pub fn longest_line() -> usize
     ensures value { result ≡ 378 }
     ensures fits { (row : List ℕ) → ShortRow row → length (line_of row) ≤ result }

@@ -8,6 +8,7 @@ use itoa::write_digits;
 
 impl Digits {
     /// The digits of a number, with no zero before them; the digit 0 for the number 0.
+    #[tactic(auto, using(crate::proofs::Lengths::digits_fit))]
     pub fn of(n: u64) -> Digits
         ensures { digits_of result ≡ decimal n }
     {

@@ -9,7 +9,7 @@ use Rattle.cheapest.specs.Ranks.{rank}
 use Rattle.cheapest.specs.Rows.{Earlier, Listing, Next, NoneAfter}
 use Rattle.cheapest.specs.Trees.{Cheapest, FullList}
 use Rattle.cheapest.proofs.Orders.{earlier_asym}
-use Rattle.cheapest.proofs.Listings.{split_at, none_listed, next_listed, first_listed, none_empty}
+use Rattle.cheapest.proofs.Listings.{split_at, none_listed, next_listed, first_listed, listed_next, listed_first, listed_last, none_empty}
 use Rattle.walks.specs.Places.{NextMembers, Comes, IsLast}
 
 ordered_once : (key : ℕ → ℕ) (xs : List (List ℕ)) → Ordered (Earlier key) xs → Different xs
@@ -36,6 +36,19 @@ module _ (key : ℕ → ℕ) (P : List ℕ → Type 0) (L : List (List ℕ)) (fu
   none_last here p none =
       let s = on_list here p in
       (s.0, s.2 ∙ ap (λ rest. s.0 ++ (here ∷ rest)) (none_listed key P L full s.0 s.1 here s.2 none))
+
+  -- and the other way round
+  pub comes_next : (here r : List ℕ) → Comes L (Some here) r → Next key P here r
+  comes_next here r c = listed_next key P L full c.0 c.1 here r c.2
+
+  pub comes_first : (r : List ℕ) → Comes L None r → P r × ((q : List ℕ) → P q → Earlier key q r → ⊥)
+  comes_first r c = listed_first key P L full r c.0 c.1
+
+  pub last_none : (here : List ℕ) → IsLast L (Some here) → NoneAfter key P here
+  last_none here l = listed_last key P L full l.0 here l.1
+
+  pub next_not_last : (here r : List ℕ) → Next key P here r → IsLast L (Some here) → ⊥
+  next_not_last here r n l = last_none here l r n.member n.later
 
   -- all that comes next is listed
   pub comes_member : (here : Option (List ℕ)) (rows : List (List ℕ)) → NextMembers L here rows → (row : List ℕ) → In row rows → P row

@@ -1,6 +1,6 @@
 //! Single steps through rows, told by the full list.
 
-ghost use Rattle.std.specs.Prelude.{◌≡◌, ℕ, ◌+◌, ◌-◌, ◌≤◌, List, length};
+ghost use Rattle.std.specs.Prelude.{◌≡◌, ℕ, ◌+◌, ◌-◌, ◌≤◌, List, ◌++◌, length, drop};
 ghost use Rattle.forests.specs.Graphs.{SitesJoined};
 ghost use Rattle.cheapest.specs.Plans.{graph_of};
 ghost use Rattle.cheapest.specs.Positions.{plan_of};
@@ -10,6 +10,14 @@ ghost use Rattle.walks.specs.Walks.{place_in, ListedBy};
 
 use cheapest::Rows;
 use networks::Refusal;
+
+/// Writes the row into the first places of the list.
+fn write_row(row: &[u16], list: &mut [u16])
+    requires { length row.now ≤ length list.old }
+    ensures { list.new ≡ row.now ++ drop (length row.now) list.old }
+{
+    list[..row.len()].copy_from_slice(row);
+}
 
 /// Moves to the row that follows and writes it into the list, which has room for it.
 pub(crate) fn next_row(rows: &mut Rows, list: &mut [u16]) -> Result<(), Refusal>
@@ -23,8 +31,7 @@ pub(crate) fn next_row(rows: &mut Rows, list: &mut [u16]) -> Result<(), Refusal>
     if !rows.advance() {
         return Err(Refusal::NoRowFollows);
     }
-    let row = rows.row();
-    list[..row.len()].copy_from_slice(row);
+    write_row(rows.row(), list);
     Ok(())
 }
 

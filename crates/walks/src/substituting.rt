@@ -29,6 +29,15 @@ fn check_link(rows: &Rows, link: u16) -> Result<(), Refusal>
 }
 
 impl<K: WeightKind> Walk<K> {
+    /// The substitute of a link of the row.
+    fn stand_in(&self, link: u16) -> Option<u16>
+        requires on { is_on self.now.rows ≡ true }
+        requires inside { In link (row_at (place_of self.now)) }
+        ensures { Answers (network_graph (network_of self.now)) K.WeightKind.weighing.scale (weights_of K.WeightKind.weighing (network_of self.now)) (row_at (place_of self.now)) link result }
+    {
+        self.rows.substitute(link)
+    }
+
     /// Another link that can take the place of this one in the walk's row, such that it is again the row of a
     /// cheapest tree; or none if there is no such link. The cost is one run over the links.
     pub fn substitute(&self, link: u16) -> Result<Option<u16>, Refusal>
@@ -36,6 +45,6 @@ impl<K: WeightKind> Walk<K> {
         ensures answers { IfOk result (λ answer. Answers (network_graph (network_of self.now)) K.WeightKind.weighing.scale (weights_of K.WeightKind.weighing (network_of self.now)) (row_at (place_of self.now)) link answer) }
     {
         check_link(&self.rows, link)?;
-        Ok(self.rows.substitute(link))
+        Ok(self.stand_in(link))
     }
 }

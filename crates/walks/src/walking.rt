@@ -79,6 +79,15 @@ impl<K: WeightKind> Walk<K> {
         ensures stays { network_of self.new ≡ network_of self.old }
         ensures serves { Serves R.Receiver.rule R.Receiver.spare R.Receiver.lender receiver.old receiver.new }
     {
+        self.pour_into(receiver, limit)
+    }
+
+    /// Pours. The long proof is this function's, so that a wrong call in `pour` falls at what `pour` promises.
+    fn pour_into<R: Receiver>(&mut self, receiver: &mut R, limit: u32) -> (u32, char)
+        ensures acts { PourActs self.old self.new (R.Receiver.rule receiver.old) (R.Receiver.held receiver.old) limit result.0 result.1 (R.Receiver.held receiver.new) }
+        ensures stays { network_of self.new ≡ network_of self.old }
+        ensures serves { Serves R.Receiver.rule R.Receiver.spare R.Receiver.lender receiver.old receiver.new }
+    {
         // A pair of a count and a letter, and no struct: a form that the product is to have.
         let (count, ending) = pour_rows(&mut self.rows, receiver, limit);
         (count, ending.letter())

@@ -1,4 +1,4 @@
-use Rattle.std.proofs.Common.{◌≡◌, ◌++◌, take, drop, Some, Ok, Option, sym, ap, ◌∙◌, subst, MatchOption}
+use Rattle.std.proofs.Common.{rules, ◌≡◌, ◌++◌, take, drop, Some, Ok, Option, sym, ap, ◌∙◌, subst, MatchOption}
 use Rattle.std.proofs.lemmas.List.{take-append-drop, length-take-le}
 use Rattle.std.proofs.lemmas.Result.{IfOk-at_ok}
 use Rattle.networks.specs.Refusals.{refusal_of}
@@ -9,7 +9,7 @@ use Rattle.sheets.proofs.loading.load.Goals as goal
 pub returns : goal.returns
 returns g c =
     let k = g.K.SheetKind in
-    let was : c.read.result ≡ Ok c.in_ok-counts.counts = c.in_ok-counts.was in
+    let was : c.read.result ≡ Ok c.in_ok-counts.counts = search rules in
     let reads = IfOk-at_ok _ was c.read.ensures.reads in
     let fills = IfOk-at_ok _ was c.read.ensures.fills in
     let leaves = IfOk-at_ok _ was c.read.ensures.leaves in

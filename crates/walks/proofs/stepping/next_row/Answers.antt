@@ -30,7 +30,7 @@ returns-clause-does c L full =
         room = omega arith;
         joined = joined;
         not_last = not_last L (listed_once _ _ L full) _ (row_of after) [] comes;
-        writes = (let copied = c.copy_from_slice.ensures.after in let row = c.row-row.ensures in cc);
+        writes = (let written = c.write_row.ensures in let row = c.row.ensures in cc);
       },
       place_on after steps.on,
     )

@@ -5,7 +5,7 @@ use Rattle.walks.specs.Doing.{PourDoes}
 use Rattle.walks.specs.Letters.{letter_of}
 use Rattle.walks.specs.Walks.{place_in}
 use Rattle.walks.proofs.FromPlans.{listed_by}
-use Rattle.walks.proofs.walks.Walk.pour.Goals as goal
+use Rattle.walks.proofs.walks.Walk.pour_into.Goals as goal
 
 pub returns-clause-acts : goal.returns-clause-acts
 returns-clause-acts g c =
