@@ -1,8 +1,23 @@
 -- What is left of a passed list, and the list once it is given back.
-use Rattle.std.proofs.Common.{◌≡◌, ℕ, ◌+◌, ◌-◌, List, ◌++◌, length, drop, sym, ap, ◌∙◌, ⊎_elim, arith}
+use Rattle.std.proofs.Common.{◌≡◌, ℕ, ◌+◌, ◌-◌, List, ◌++◌, length, take, drop, sym, ap, ◌∙◌, ⊎_elim, arith}
 use Rattle.std.proofs.lemmas.Bool.{cases_lt}
-use Rattle.std.proofs.lemmas.List.{length-drop, length-append, drop-drop, drop_all}
+use Rattle.std.proofs.lemmas.List.{length-take-le, take_all, length-drop, length-append, drop-drop, drop_all}
 use Rattle.receivers.specs.Rules.{with_places_given_back, EndOf}
+
+-- a list has no more places in use than its length
+pub reach_take : {T : Type 0} (cells : List T) (used : ℕ) → take (length (take used cells)) cells ≡ take used cells
+reach_take cells used =
+    ⊎_elim
+    (λ l. ap (λ n. take n cells) (length-take-le used cells (omega arith)))
+    (λ m. ap (λ xs. take (length xs) cells) (take_all used cells m) ∙ take_all (length cells) cells (omega arith) ∙ sym (take_all used cells m))
+    (cases_lt used (length cells))
+
+pub reach_drop : {T : Type 0} (cells : List T) (used : ℕ) → drop (length (take used cells)) cells ≡ drop used cells
+reach_drop cells used =
+    ⊎_elim
+    (λ l. ap (λ n. drop n cells) (length-take-le used cells (omega arith)))
+    (λ m. ap (λ xs. drop (length xs) cells) (take_all used cells m) ∙ drop_all (length cells) cells (omega arith) ∙ sym (drop_all used cells m))
+    (cases_lt used (length cells))
 
 -- a list without some of its front is its end
 pub end_drop : (n : ℕ) (xs : List ℕ) → EndOf xs (drop n xs)

@@ -8,9 +8,10 @@ ghost use Rattle.std.specs.Prelude.{◌≡◌, ◌+◌, ◌≤◌, [], ◌++◌,
 #[derive(Drop)]
 pub struct Places<'a, T> {
     cells: &'a mut [T],
-    /// How many of the cells are used.
+    /// How many of the cells are used, where there are so many.
+    // No ghost field says that there are: a function that is passed a struct with one, which holds a `&mut`, could not hand it
+    // on to another without a proof by hand.
     used: usize,
-    ghost inside: { used ≤ length cells.now },
 }
 
 impl<'a, T> Places<'a, T> {
@@ -30,14 +31,14 @@ impl<'a, T> Places<'a, T> {
     pub fn used(&self) -> usize
         ensures { result ≡ length (held_in self.now) }
     {
-        self.used
+        self.used.min(self.cells.len())
     }
 
     /// Whether there is room for so many more.
     pub(crate) fn fits(&self, more: usize) -> bool
         ensures { result ≡ nat_le (length (held_in self.now) + more) (room_in self.now) }
     {
-        more <= self.cells.len() - self.used
+        more <= self.cells.len() - self.used()
     }
 }
 
@@ -52,7 +53,7 @@ impl<T: Copy> Places<'_, T> {
         ensures room { room_in self.new ≡ room_in self.old }
         ensures lender { self.new.cells.ghost_name ≡ self.old.cells.ghost_name }
     {
-        let start = self.used;
+        let start = self.used();
         let end = start + part.len();
         self.cells[start..end].copy_from_slice(part);
         self.used = end;
