@@ -20,6 +20,7 @@
 
 #![tactic(auto)]
 
+mod beginning;
 mod candidates;
 mod choosing;
 mod closing;

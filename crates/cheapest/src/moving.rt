@@ -3,12 +3,10 @@
 ghost use Rattle.std.specs.Prelude.{◌≡◌, true, false, Decides};
 ghost use Rattle.cheapest.specs.Positions.{plan_of, is_on, row_of, CheapestIn, Steps, Stops, SamePlace};
 
-use crate::candidates::Candidates;
 use crate::enumeration::Rows;
 use crate::listing::list_candidates;
 use crate::plan::Plan;
 use crate::reading::read_row;
-use crate::walk::Walk;
 
 impl Rows {
     /// A walk that stands before the full list of the plan. The cost is two runs over the candidates.
@@ -17,27 +15,6 @@ impl Rows {
         ensures before { is_on result ≡ false }
     {
         Rows::before(list_candidates(plan))
-    }
-
-    /// A walk that stands before the full list of the candidates.
-    fn before(list: Candidates) -> Rows
-        ensures list { result.list ≡ list }
-        ensures before { is_on result ≡ false }
-    {
-        let mut walk = Walk::empty();
-        let size = walk.first_row(&list, 0);
-        let mut wanted = [0; 64];
-        read_row(&list, &walk.at, 0, size, &mut wanted, |c| c.class);
-        let mut row = [0; 64];
-        read_row(&list, &walk.at, 0, size, &mut row, |c| c.number);
-        Rows {
-            list,
-            walk,
-            size,
-            wanted,
-            row,
-            on: false,
-        }
     }
 
     /// Moves to the first row, or to the row that follows; whether there is one. If not, the walk stays
@@ -90,7 +67,7 @@ impl Rows {
         ensures before { is_on self.new ≡ false }
     {
         if self.on {
-            *self = Rows::before(self.list);
+            self.rewind();
         }
     }
 }
