@@ -1,6 +1,7 @@
 -- Links that some cheapest tree has. The greedy completion of a link that is no loop has the least total of
 -- all trees with that link, so the link is in a cheapest tree if that total is the first row's.
-use Rattle.std.proofs.Common.{◌≡◌, ℕ, ◌+◌, ◌<◌, true, false, leb, List, [], ◌∷◌, map, length, Decides, sym, refl, ap, ◌∙◌, subst, inl, inr, arith}
+use Rattle.std.proofs.Common.{◌≡◌, ℕ, ◌+◌, ◌<◌, true, false, leb, List, [], ◌∷◌, map, length, take, Decides, sym, refl, ap, ◌∙◌, subst, inl, inr, arith}
+use Rattle.std.proofs.lemmas.List.{length-map, length-take-le}
 use Rattle.std.proofs.lemmas.Bool.{both_ways, leb-true, le-leb}
 use Rattle.weights.specs.Amounts.{numbers}
 use Rattle.weights.specs.Scales.{sum_of}
@@ -16,7 +17,7 @@ use Rattle.forests.proofs.Trees.{tree_free}
 use Rattle.cheapest.specs.Classes.{InSome}
 use Rattle.cheapest.specs.Completions.{completion}
 use Rattle.cheapest.specs.Plans.{graph_of, mark_of, ranked_of, first_of}
-use Rattle.cheapest.specs.Scans.{ring, grown}
+use Rattle.cheapest.specs.Scans.{ring, grown, Filled}
 use Rattle.cheapest.specs.declared.candidates.Candidates.{Candidates}
 use Rattle.cheapest.specs.Candidates.{start_of, end_of, class_of, number_of}
 use Rattle.cheapest.proofs.Classes.{some_reaches, reaches_some}
@@ -26,13 +27,27 @@ use Rattle.cheapest.proofs.Numbers.{numbers_lawful}
 use Rattle.cheapest.proofs.Sorting.{below_in}
 use Rattle.cheapest.proofs.Standings.{classes_marks}
 use Rattle.cheapest.proofs.Totals.{total_push}
-use Rattle.cheapest.proofs.Translation.{grown_same, ring_same}
+use Rattle.cheapest.proofs.Translation.{first_same, grown_same, ring_same}
 use Rattle.cheapest.proofs.TreeRows.{candidate_allowed, allowed_candidate}
 
 module _ (list : Candidates) where
   -- the candidates of a greedy completion are candidates
   picked_small : (S : List ℕ) (c : ℕ) → In c (picks (ring (start_of list) (end_of list)) S (below list.count)) → c < list.count
   picked_small S c m = below_in list.count c (picks_within (ring (start_of list) (end_of list)) S (below list.count) c m)
+
+  pub filled_marks : {at : List ℕ} {stack : List (List ℕ)} {size : ℕ} → Filled (start_of list) (end_of list) list.count [] at stack size
+      → map (class_of list) (take size at) ≡ map (mark_of list.plan) (first_of list.plan)
+  filled_marks filled =
+      ap (map (class_of list)) filled.whole
+      ∙ classes_marks list (picks (ring (start_of list) (end_of list)) [] (below list.count)) (picked_small [])
+      ∙ ap (map (mark_of list.plan)) (sym (first_same list))
+
+  pub filled_size : {at : List ℕ} {stack : List (List ℕ)} {size : ℕ} → length at ≡ 64 → Filled (start_of list) (end_of list) list.count [] at stack size
+      → size ≡ length (first_of list.plan)
+  filled_size {at} {stack} {size} wide filled =
+      let w = mark_of list.plan in
+      let f = class_of list in
+      sym (length-take-le size at (omega (arith, filled.few))) ∙ sym (length-map (take size at) f) ∙ ap length (filled_marks filled) ∙ length-map (first_of list.plan) w
 
   module _ (c : ℕ) (l : c < list.count) where
     -- a loop is in no tree

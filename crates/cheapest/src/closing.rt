@@ -1,11 +1,12 @@
 //! Plans with a link closed, and links that every cheapest tree has.
 
-ghost use Rattle.std.specs.Prelude.{◌≡◌, Decides, nat_eq};
+ghost use Rattle.std.specs.Prelude.{◌≡◌, not, Decides, nat_eq};
 ghost use Rattle.weights.specs.Amounts.{numbers};
 ghost use Rattle.cheapest.specs.Classes.{closing, InEvery};
 ghost use Rattle.cheapest.specs.Plans.{graph_of, mark_of};
 
-use crate::enumeration::Rows;
+use crate::listing::list_candidates;
+use crate::membership::least_total;
 use crate::plan::Plan;
 
 impl Plan {
@@ -27,17 +28,26 @@ impl Plan {
         }
     }
 
-    /// Whether every cheapest tree has this link; where there is no tree, that is so of any link. Some cheapest
-    /// tree does without it if the first row without it is a tree's and has the marks of the first row.
+    /// Whether every cheapest tree has this link; where there is no tree, that is so of any link.
     pub fn in_every(&self, link: u16) -> bool
         ensures { Decides result (InEvery (graph_of self.now) numbers (mark_of self.now) link) }
     {
-        let rows = Rows::new(*self);
-        if !rows.joined() {
-            return true;
-        }
-        let others = Rows::new(self.without(link));
-        let same = rows.marks() == others.marks();
-        !same
+        !self.avoids(link)
+    }
+
+    /// Whether some cheapest tree does without this link: whether the first row without it is a tree's and has
+    /// the total of the first row.
+    fn avoids(&self, link: u16) -> bool
+        ensures { Decides (not result) (InEvery (graph_of self.now) numbers (mark_of self.now) link) }
+    {
+        let list = list_candidates(*self);
+        let Some(least) = least_total(&list) else {
+            return false;
+        };
+        let others = list_candidates(self.without(link));
+        let Some(total) = least_total(&others) else {
+            return false;
+        };
+        total == least
     }
 }

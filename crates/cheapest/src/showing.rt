@@ -1,12 +1,21 @@
 //! What a walk shows of its place and of its list.
 
-ghost use Rattle.std.specs.Prelude.{◌≡◌, map, Decides};
+ghost use Rattle.std.specs.Prelude.{◌≡◌, ◌<◌, length, Decides};
 ghost use Rattle.forests.specs.Graphs.{SitesJoined};
-ghost use Rattle.cheapest.specs.Plans.{graph_of, mark_of, first_of};
+ghost use Rattle.cheapest.specs.Plans.{graph_of, first_of};
 ghost use Rattle.cheapest.specs.Positions.{plan_of, is_on, row_of, HasTree};
 
 use crate::enumeration::Rows;
 use crate::plan::Plan;
+
+/// Whether the first row, of so many links, is a spanning tree's.
+pub(crate) fn is_tree(plan: &Plan, size: usize) -> bool
+    requires { (size < 64) × (size ≡ length (first_of plan.now)) }
+    ensures joined { Decides result (SitesJoined (graph_of plan.now)) }
+    ensures tree { Decides result (HasTree plan.now) }
+{
+    size + 1 == plan.sites as usize
+}
 
 impl Rows {
     /// Whether the usable links join all sites, so that there is a spanning tree.
@@ -14,7 +23,7 @@ impl Rows {
         ensures joined { Decides result (SitesJoined (graph_of (plan_of self.now))) }
         ensures tree { Decides result (HasTree (plan_of self.now)) }
     {
-        self.size + 1 == self.list.plan.sites as usize
+        is_tree(&self.list.plan, self.size)
     }
 
     /// Whether the walk is on a row.
@@ -30,13 +39,6 @@ impl Rows {
     {
         let size = if self.on { self.size } else { 0 };
         &self.row[0..size]
-    }
-
-    /// The marks of the first row, which are those of every row of the list.
-    pub(crate) fn marks(&self) -> &[u16]
-        ensures { result.now ≡ map (mark_of (plan_of self.now)) (first_of (plan_of self.now)) }
-    {
-        &self.wanted[0..self.size]
     }
 
     /// The plan that is walked through.
