@@ -1,12 +1,12 @@
 //! Links that stand in for a link of the row.
 
-ghost use Rattle.std.specs.Prelude.{◌≡◌, ℕ, ◌<◌, length, take, MatchOption, ◌≢◌, slice_index};
+ghost use Rattle.std.specs.Prelude.{◌≡◌, ℕ, ◌<◌, length, take, Decides, MatchOption, ◌≢◌, slice_index};
 ghost use Rattle.forests.specs.Lists.{In};
 ghost use Rattle.cheapest.specs.Positions.{plan_of, row_of};
 ghost use Rattle.cheapest.specs.Runs.{FrontsIn, CrossesIn};
 ghost use Rattle.cheapest.specs.StandIns.{StandsIn, FirstStandIn};
 
-use crate::candidates::Candidates;
+use crate::candidates::{Candidate, Candidates};
 use crate::enumeration::Rows;
 use crate::walk::Walk;
 
@@ -15,6 +15,15 @@ fn place_of(row: &[u16], link: u16) -> Option<usize>
     ensures { MatchOption result ((j : ℕ) → j < length row.now → slice_index row.now j ≢ link) (λ j. (j < length row.now) × (slice_index row.now j ≡ link)) }
 {
     row.iter().position(|x| *x == link)
+}
+
+impl Candidate {
+    /// Whether it is another link than the given one, of the class.
+    fn is_other(self, link: u16, class: u16) -> bool
+        ensures { Decides result ((self.number ≢ link) × (self.class ≡ class)) }
+    {
+        self.number != link && self.class == class
+    }
 }
 
 impl Walk {
@@ -26,9 +35,8 @@ impl Walk {
         ensures { MatchOption result ((c : ℕ) → c < list.now.count → CrossesIn list.now (take p self.now.at) link class c → ⊥) (λ c. (c < list.now.count) × CrossesIn list.now (take p self.now.at) link class c × ((d : ℕ) → d < c → CrossesIn list.now (take p self.now.at) link class d → ⊥)) }
     {
         (0..list.count).find(|c| {
-            list.items[*c].number != link
-                && list.items[*c].class == class
-                && self.apart(list, p, *c)
+            let candidate = list.items[*c];
+            candidate.is_other(link, class) && self.apart(list, p, *c)
         })
     }
 }
@@ -43,7 +51,8 @@ impl Rows {
         let q = place_of(row, link)?;
         let mut rest = self.row;
         rest.copy_within(q + 1.., q);
-        let mut walk = Walk::empty();
+        // The walk is written over; to copy it costs less than to make an empty one.
+        let mut walk = self.walk;
         walk.place(&self.list, &rest[0..self.size - 1]);
         let c = walk.first_across(&self.list, self.size - 1, link, self.wanted[q])?;
         Some(self.list.items[c].number)

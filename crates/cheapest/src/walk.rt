@@ -20,9 +20,11 @@ impl Walk {
         ensures { (u : ℕ) → u < 64 → slice_index (slice_index_or result.labels 0 []) u ≡ u }
     {
         let sites: [u8; 64] = array::from_fn(|u| u as u8);
+        let mut labels = [[0; 64]; 64];
+        labels[0] = sites;
         Walk {
             at: [0; 64],
-            labels: [sites; 64],
+            labels,
         }
     }
 }
