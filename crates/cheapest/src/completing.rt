@@ -1,10 +1,19 @@
 //! Completions of a row in the making.
 
-ghost use Rattle.std.specs.Prelude.{◌<◌, ◌≤◌, length};
+ghost use Rattle.std.specs.Prelude.{◌≡◌, ◌<◌, ◌≤◌, length, nat_lt};
 ghost use Rattle.cheapest.specs.Runs.{PlacedIn, CompletedIn};
 
-use crate::candidates::Candidates;
+use crate::candidates::{Candidate, Candidates};
 use crate::walk::Walk;
+
+impl Candidate {
+    /// Whether its class is above the wanted one.
+    fn is_dearer(self, wanted: u16) -> bool
+        ensures { result ≡ nat_lt wanted self.class }
+    {
+        self.class > wanted
+    }
+}
 
 impl Walk {
     /// Completes the first `i` candidates of the row by candidates from `first` on, to a row of the wanted
@@ -26,7 +35,7 @@ impl Walk {
             if p == wanted.len() {
                 return true;
             }
-            if list.items[c].class > wanted[p] {
+            if list.items[c].is_dearer(wanted[p]) {
                 return false;
             }
             if self.apart(list, p, c) {
