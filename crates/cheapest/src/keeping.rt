@@ -32,12 +32,13 @@ impl Rows {
         ensures on { kept_on result ≡ is_on self.now }
         ensures row { kept_row result ≡ row_of self.now }
     {
+        if !self.on {
+            return Kept { row: None };
+        }
         let links = Links {
             numbers: self.row,
             size: self.size,
         };
-        Kept {
-            row: self.on.then_some(links),
-        }
+        Kept { row: Some(links) }
     }
 }
