@@ -13,6 +13,7 @@ use Rattle.cheapest.specs.Runs.{row_in}
 use Rattle.cheapest.specs.declared.candidates.Candidates.{Candidates}
 use Rattle.cheapest.specs.declared.enumeration.Rows.{Rows}
 use Rattle.cheapest.specs.Candidates.{start_of, end_of, class_of, number_of}
+use Rattle.cheapest.proofs.Belonging.{filled_marks, filled_size}
 use Rattle.cheapest.proofs.Joining.{tree_size, first_begins}
 use Rattle.cheapest.proofs.RowTests.{passes_cheapest, cheapest_passes}
 use Rattle.cheapest.proofs.Standings.{Standing, first_standing, first_at}
@@ -82,6 +83,28 @@ pub first_owed : (list : Candidates) {at : List ℕ} {stack : List (List ℕ)} {
 first_owed list filled wide wanted row wide_wanted wide_row classes links =
     owed (first_standing list filled wide wanted row wide_wanted wide_row classes links)
     (λ j h. first_at list filled wide wanted row wide_wanted wide_row classes links j h.1) (λ e. absurd (false≢true e))
+
+-- a walk that was put back before the list: its size and its marks are those of the first row still
+module _ (rows : Rows) {at : List ℕ} {stack : List (List ℕ)} {n : ℕ} (filled : Filled (start_of rows.list) (end_of rows.list) rows.list.count [] at stack n)
+    (wide : length at ≡ 64) where
+  pub again_size : n ≡ rows.size
+  again_size = filled_size rows.list wide filled ∙ sym rows.whole
+
+  pub again_owed : (row : List ℕ) → length row ≡ 64 → ((j : ℕ) → j < rows.size → get_or row j 0 ≡ number_of rows.list (get_or at j 0))
+      → Owed rows.list at stack rows.size rows.wanted row false
+  again_owed row wide_row links =
+      let list = rows.list in
+      let w = mark_of list.plan in
+      let f = first_of list.plan in
+      let first : Filled (start_of list) (end_of list) list.count [] at stack rows.size =
+      subst (Filled (start_of list) (end_of list) list.count [] at stack) again_size filled in
+      let long : length (take rows.size at) ≡ rows.size = length-take-le rows.size at (omega (arith, rows.small, wide)) in
+      first_owed list first wide rows.wanted row rows.widewanted wide_row
+      (λ j l.
+      rows.wants j l ∙ sym (get_or-map w f j 0 0 (omega (arith, rows.whole)))
+      ∙ ap (λ xs. get_or xs j 0) (sym (filled_marks list first)) ∙ get_or-map (class_of list) (take rows.size at) j 0 0 (omega (arith, long))
+      ∙ ap (class_of list) (get_or-take rows.size at j 0 l))
+      links
 
 module _ (rows : Rows) where
   pub row_on : is_on rows ≡ true → row_of rows ≡ take rows.size rows.row

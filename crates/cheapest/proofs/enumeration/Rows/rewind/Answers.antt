@@ -1,8 +1,10 @@
-use Rattle.cheapest.proofs.Stances.{first_owed}
+use Rattle.std.proofs.Common.{arith}
+use Rattle.cheapest.proofs.Stances.{again_size, again_owed}
 use Rattle.cheapest.proofs.enumeration.Rows.rewind.Goals as goal
 
 pub invariant_of-self : goal.invariant_of-self
 invariant_of-self c =
-    let first = c.to_first-self.ensures in
-    first_owed c.args.self.now.list first.filled c.to_first-self.new.self.wide c.to_first-self.new.wanted c.to_first-self.new.row
-    first.wide.0 first.wide.1 first.marks first.links
+    let rows = c.args.self.now in
+    let first = c.to_first.ensures in
+    let wide = c.to_first.new.self.wide in
+    again_owed rows first.filled wide c.to_first.new.row first.wide (λ j l. first.links j (omega (arith, l, again_size rows first.filled wide)))
