@@ -22,11 +22,10 @@ module _ {K : Type 0} where
   refused (Ok n) report e = e
   refused (Err e) report same = same
 
--- the answer to a sheet, loaded as the kind that is asked for
-pub answers_as : (kind asked : Kind) → asked ≡ kind → (sheet : List ℕ) (r : Result (Network (form_of kind).Weight) Refusal) (a : Result Contents Refusal)
-    → Loads (form_of kind).letter (form_of kind).width (form_of kind).bytes sheet r → a ≡ told_of r → AnswersAs asked sheet a
-answers_as kind asked same sheet r a loads is =
+-- the answer to a sheet, loaded as this kind
+pub answers_as : (kind : Kind) (sheet : List ℕ) (r : Result (Network (form_of kind).Weight) Refusal) (a : Result Contents Refusal)
+    → Loads (form_of kind).letter (form_of kind).width (form_of kind).bytes sheet r → a ≡ told_of r → AnswersAs kind sheet a
+answers_as kind sheet r a loads is =
     let form = form_of kind in
-    subst (λ (k : Kind). AnswersAs k sheet a) (sym same)
-    (subst (λ (b : Result Contents Refusal). AnswersKind form.letter form.width form.bytes sheet b) (sym is)
-    (judged form.letter form.width form.bytes sheet _ _ _ _ (sound r) (refused r) loads))
+    subst (λ (b : Result Contents Refusal). AnswersKind form.letter form.width form.bytes sheet b) (sym is)
+    (judged form.letter form.width form.bytes sheet _ _ _ _ (sound r) (refused r) loads)

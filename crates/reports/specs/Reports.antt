@@ -5,9 +5,6 @@ use Rattle.networks.specs.declared.networks.Network.{Network}
 use Rattle.networks.specs.declared.refusals.Refusal.{Refusal}
 use Rattle.networks.specs.declared.refusals.Report.{Report as Told}
 use Rattle.weights.specs.Scales.{Weighing}
-use Rattle.weights.specs.declared.kinds.WeightKind.{Ghosts}
-use Rattle.walks.specs.Walks.{network_of}
-use Rattle.walks.specs.declared.walks.Walk.{Walk}
 use Rattle.reports.specs.Answers.{kind_of}
 use Rattle.reports.specs.Judging.{NetworkOf, Judged}
 use Rattle.reports.specs.Kinds.{form_of}
@@ -18,11 +15,6 @@ use Rattle.reports.specs.declared.answers.Kind.{Kind}
 -- the single line of a refusal
 abbrev pub RefusedText : List ℕ → Told → Type 0
 RefusedText text report = text ≡ line_of report ++ (10 ∷ [])
-
--- what was loaded, where its network is walked through
-abbrev pub walked_through : {K T : Type 0} {kind : Ghosts K T} → Result (Walk K T kind) Refusal → Result (Network K) Refusal
-walked_through (Ok walk) = Ok (network_of walk)
-walked_through (Err e) = Err e
 
 -- what is printed of what loading gave
 abbrev pub PrintsLoaded : {K : Type 0} (kind : Weighing K) (shown : kind.scale.Amount → List ℕ) → Result (Network K) Refusal → List ℕ → Type 0
@@ -46,15 +38,11 @@ Reports sheet text = ReportsAs (kind_of sheet) sheet text
 abbrev pub PutsReport : {S : Type 0} → (S → List ℕ → S → Type 0) → Kind → List ℕ → S → S → Type 0
 PutsReport took kind sheet start end = (text : List ℕ) × ReportsAs kind sheet text × PutOut took start text end
 
-module _ {K : Type 0} (kind : Weighing K) {T : Type 0} (text : T → List ℕ) (sum : T → kind.scale.Amount) {S : Type 0} (took : S → List ℕ → S → Type 0) where
-  -- however amounts are printed, if the text of a total is that of its sum: this was put out, and nothing else
-  abbrev pub PutsShown : ((kind.scale.Amount → List ℕ) → List ℕ → Type 0) → S → S → Type 0
-  PutsShown Prints start end = (shown : kind.scale.Amount → List ℕ) → ((t : T) → text t ≡ shown (sum t)) → (all : List ℕ) × Prints shown all × PutOut took start all end
+module _ {K : Type 0} (kind : Weighing K) {S : Type 0} (took : S → List ℕ → S → Type 0) where
+  -- the report of a network, with totals printed as `shown` says, was put out, and nothing else
+  abbrev pub PutsNetwork : (shown : kind.scale.Amount → List ℕ) → Network K → S → S → Type 0
+  PutsNetwork shown n start end = (text : List ℕ) × Report kind shown n text × PutOut took start text end
 
-  -- the report of a network
-  abbrev pub PutsNetwork : Network K → S → S → Type 0
-  PutsNetwork n = PutsShown (λ shown all. Report kind shown n all)
-
-  -- the report of the network that was loaded and is walked through, or the line of the refusal
-  abbrev pub PutsLoaded : {U : Type 0} {walked : Ghosts K U} → Result (Walk K U walked) Refusal → S → S → Type 0
-  PutsLoaded r = PutsShown (λ shown all. PrintsLoaded kind shown (walked_through r) all)
+  -- the same, however amounts are printed, if the text of a total is that of its sum
+  abbrev pub PutsWalked : {T : Type 0} (text : T → List ℕ) (sum : T → kind.scale.Amount) → Network K → S → S → Type 0
+  PutsWalked {T} text sum n start end = (shown : kind.scale.Amount → List ℕ) → ((t : T) → text t ≡ shown (sum t)) → PutsNetwork shown n start end

@@ -3,7 +3,8 @@
 ghost use Rattle.std.specs.Prelude.{◌≡◌, ℕ};
 ghost use Rattle.networks.specs.Refusals.{line_of};
 ghost use Rattle.texts.specs.Lines.{line_bytes};
-ghost use Rattle.reports.specs.Answers.{kind_of, told_of, Answers, line_of_answer, sound_line};
+ghost use Rattle.reports.specs.Answers.{kind_of, told_of, Answers, AnswersAs, line_of_answer, sound_line};
+ghost use Rattle.reports.specs.declared.answers.Kind.TheVariants.{Metres as metres, CrossingsMetres as crossings};
 
 use crate::answers::{Answer, Contents, Kind};
 use crate::loading::{counts, load_as};
@@ -26,9 +27,21 @@ pub fn answer(sheet: &[u8]) -> Answer
     ensures { Answers sheet.now result }
 {
     match kind_of(sheet) {
-        Kind::Metres => told(load_as::<Metres>(sheet)),
-        Kind::CrossingsMetres => told(load_as::<Pair<Crossings, Metres>>(sheet)),
+        Kind::Metres => answer_metres(sheet),
+        Kind::CrossingsMetres => answer_crossings(sheet),
     }
+}
+
+fn answer_metres(sheet: &[u8]) -> Answer
+    ensures { AnswersAs metres sheet.now result }
+{
+    told(load_as::<Metres>(sheet))
+}
+
+fn answer_crossings(sheet: &[u8]) -> Answer
+    ensures { AnswersAs crossings sheet.now result }
+{
+    told(load_as::<Pair<Crossings, Metres>>(sheet))
 }
 
 /// What is answered where loading gave this.

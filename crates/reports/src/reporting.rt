@@ -1,12 +1,15 @@
 //! The report of a sheet, put out part by part.
 
-ghost use Rattle.std.specs.Prelude.{◌≡◌, ℕ, ◌<◌, List, [], ◌∷◌, ◌++◌, None, IfOk};
+ghost use Rattle.std.specs.Prelude.{◌≡◌, ℕ, ◌<◌, List, [], ◌∷◌, ◌++◌, None, Ok};
+ghost use Rattle.weights.specs.Weighings.{by_metres, by_crossings, paired};
 ghost use Rattle.walks.specs.Walks.{network_of, place_of};
-ghost use Rattle.reports.specs.Answers.{kind_of, line_of_answer};
+ghost use Rattle.reports.specs.Answers.{kind_of, counts_of, line_of_answer};
+ghost use Rattle.reports.specs.Kinds.{metres_text, crossings_text};
 ghost use Rattle.reports.specs.Listing.{last_line};
-ghost use Rattle.reports.specs.Reports.{PutsReport, PutsLoaded, PutsNetwork};
+ghost use Rattle.reports.specs.Reports.{PutsReport, PutsNetwork, PutsWalked};
 ghost use Rattle.reports.specs.Sinks.{PutOut};
 ghost use Rattle.reports.specs.Totals.{total_text};
+ghost use Rattle.reports.specs.declared.answers.Kind.TheVariants.{Metres as metres, CrossingsMetres as crossings};
 
 use crate::answers::{Answer, Kind};
 use crate::lines::{kind_of, line};
@@ -15,9 +18,9 @@ use crate::loading::{counts, load_as};
 use crate::shown::Shown;
 use crate::sinks::{Sink, put_number};
 use crate::totals::{put_each, total_each};
-use networks::Refusal;
+use networks::Network;
 use walks::Walk;
-use weights::{Crossings, Metres, Pair};
+use weights::{Crossings, Metres, Pair, WeightKind};
 
 /// Puts the report of a sheet out, read as the kind that it names: its sites and links, a line for each of up to 1,000
 /// cheapest trees, and how many they are, the total of each and how the list ended; or a line that says why it is refused.
@@ -25,36 +28,62 @@ pub fn report<S: Sink>(sheet: &[u8], out: &mut S)
     ensures { PutsReport S.Sink.took (kind_of sheet.now) sheet.now out.old out.new }
 {
     match kind_of(sheet) {
-        Kind::Metres => report_loaded(load_as::<Metres>(sheet).map(Walk::begin), out),
-        Kind::CrossingsMetres => {
-            report_loaded(
-                load_as::<Pair<Crossings, Metres>>(sheet).map(Walk::begin),
-                out,
-            )
-        }
+        Kind::Metres => report_metres(sheet, out),
+        Kind::CrossingsMetres => report_crossings(sheet, out),
     }
 }
 
-/// Puts the report out of what was loaded, and walked through where it is a network.
-fn report_loaded<K: Shown, S: Sink>(loaded: Result<Walk<K>, Refusal>, out: &mut S)
-    requires { IfOk loaded (λ walk. place_of walk ≡ None) }
-    ensures { PutsLoaded K.WeightKind.weighing K.Shown.text K.WeightKind.sum S.Sink.took loaded out.old out.new }
+fn report_metres<S: Sink>(sheet: &[u8], out: &mut S)
+    ensures { PutsReport S.Sink.took metres sheet.now out.old out.new }
 {
-    match loaded {
-        Ok(walk) => report_walk(walk, out),
+    match load_as::<Metres>(sheet) {
+        Ok(network) => list_metres(network, out),
         Err(refusal) => put_answer(out, Err(refusal)),
     }
 }
 
-/// Puts the report of the network that is walked through out.
-fn report_walk<K: Shown, S: Sink>(mut walk: Walk<K>, out: &mut S)
-    requires { place_of walk ≡ None }
-    ensures { PutsNetwork K.WeightKind.weighing K.Shown.text K.WeightKind.sum S.Sink.took (network_of walk) out.old out.new }
+fn report_crossings<S: Sink>(sheet: &[u8], out: &mut S)
+    ensures { PutsReport S.Sink.took crossings sheet.now out.old out.new }
 {
-    put_answer(out, Ok(counts(walk.network())));
-    let (count, letter) = list(&mut walk, out);
-    let total = total_each(&walk, count);
+    match load_as::<Pair<Crossings, Metres>>(sheet) {
+        Ok(network) => list_crossings(network, out),
+        Err(refusal) => put_answer(out, Err(refusal)),
+    }
+}
+
+// A walk is begun where its kind is known, since code over every kind would have to show that any kind's walk fits in
+// memory, and in a function of its own, so that a refused sheet pays for no walk's places.
+
+/// Puts the report of a network with metres out.
+fn list_metres<S: Sink>(network: Network<Metres>, out: &mut S)
+    ensures { PutsNetwork by_metres S.Sink.took metres_text network out.old out.new }
+{
+    report_walk(&mut Walk::begin(network), out);
+}
+
+/// Puts the report of a network with crossings and metres out.
+fn list_crossings<S: Sink>(network: Network<Pair<Crossings, Metres>>, out: &mut S)
+    ensures { PutsNetwork (paired by_crossings by_metres) S.Sink.took crossings_text network out.old out.new }
+{
+    report_walk(&mut Walk::begin(network), out);
+}
+
+/// Puts the report of the network that is walked through out.
+fn report_walk<K: Shown, S: Sink>(walk: &mut Walk<K>, out: &mut S)
+    requires { place_of walk.old ≡ None }
+    ensures { PutsWalked K.WeightKind.weighing S.Sink.took K.Shown.text K.WeightKind.sum (network_of walk.old) out.old out.new }
+{
+    put_answer(out, sound(walk.network()));
+    let (count, letter) = list(walk, out);
+    let total = total_each(walk, count);
     put_last::<K, S>(out, count, total, letter);
+}
+
+/// The sites and links of a network.
+fn sound<K: WeightKind>(network: &Network<K>) -> Answer
+    ensures { result ≡ Ok (counts_of network.now) }
+{
+    Ok(counts(network))
 }
 
 /// Puts the first line out.

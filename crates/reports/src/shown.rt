@@ -26,13 +26,19 @@ impl Shown for Metres {
     }
 }
 
-/// Crossings and metres have a stroke between them.
 impl Shown for Pair<Crossings, Metres> {
     ghost text = { λ t. crossings_text (t.firsts.sum, t.seconds.sum) };
 
     fn put_total<S: Sink>(total: PairTotal<CrossingsTotal, MetresTotal>, out: &mut S) {
-        put_number(out, total.first().crossings() as u64);
-        out.put(b"/");
-        put_number(out, total.second().metres());
+        put_pair(out, total.first().crossings(), total.second().metres());
     }
+}
+
+/// Puts crossings and metres out, with a stroke between them.
+fn put_pair<S: Sink>(out: &mut S, crossings: u32, metres: u64)
+    ensures { PutOut S.Sink.took out.old (crossings_text (crossings, metres)) out.new }
+{
+    put_number(out, crossings as u64);
+    out.put(b"/");
+    put_number(out, metres);
 }

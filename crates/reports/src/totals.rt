@@ -1,13 +1,20 @@
 //! The total of each row.
 
 ghost use Rattle.reports.specs.Sinks.{PutOut};
-ghost use Rattle.reports.specs.Totals.{total_text, EachOf};
+ghost use Rattle.reports.specs.Totals.{total_text, TotalOf, EachOf};
 
 use crate::shown::Shown;
 use crate::sinks::Sink;
-use networks::price;
+use networks::{Link, price};
 use walks::Walk;
 use weights::WeightKind;
+
+/// The total of a row, if it has one.
+fn total_of<K: WeightKind>(links: &[Link<K>], row: &[u16]) -> Option<K::Total>
+    ensures { TotalOf K.WeightKind.weighing K.WeightKind.sum links.now row.now result }
+{
+    price(links, row).ok()
+}
 
 /// The total of each of so many rows, where the walk is on a row if there is one.
 pub(crate) fn total_each<K: WeightKind>(walk: &Walk<K>, count: u32) -> Option<K::Total>
@@ -16,7 +23,7 @@ pub(crate) fn total_each<K: WeightKind>(walk: &Walk<K>, count: u32) -> Option<K:
     if count == 0 {
         return None;
     }
-    price(walk.network().links(), walk.row()).ok()
+    total_of(walk.network().links(), walk.row())
 }
 
 /// Puts the total of each row out, and a dash where there is none.
