@@ -57,7 +57,7 @@ module _ {K T : Type 0} {kind : Ghosts K T} (laws : Lawful kind.weighing.scale) 
         (subst (λ (k : Network K). TotalOf kind.weighing kind.sum (links_of k) here each) same
         (subst (λ (r : List ℕ). TotalOf kind.weighing kind.sum (links_of (network_of after)) r each) (ap row_at place) (totals.1 some)) priced)
 
-    pub report_of : PutOut took start (sound_line (sites_of n) (length (links_of n)) ++ (10 ∷ [])) listing → PutOut took listed (last_line count (total_text text each) letter) end → PutsWalked kind.weighing took text kind.sum n start end
+    pub report_of : PutOut took start (sound_line (sites_of n) (length (links_of n)) ++ (10 ∷ [])) listing → PutOut took listed (last_line count (total_text text each) letter) end → PutsWalked kind.weighing text kind.sum took n start end
     report_of begins ends shown by =
         let list = one_list kind.weighing.scale laws (network_graph n) (network_fits n) w in
         let (rows, long, put, printed, on) = lists list.0 list.1 in

@@ -37,7 +37,7 @@ module _ {S : Type 0} (took : S → List ℕ → S → Type 0) (start end : S) (
       )
 
   -- where a network was loaded, its report
-  pub network_reported : (n : Network (form_of kind).Weight) → r ≡ Ok n → PutsNetwork (form_of kind).weighing took (form_of kind).shown n start end → PutsReport took kind sheet start end
+  pub network_reported : (n : Network (form_of kind).Weight) → r ≡ Ok n → PutsNetwork (form_of kind).weighing (form_of kind).shown took n start end → PutsReport took kind sheet start end
   network_reported n is (text, report, put) =
       let form = form_of kind in
       reported text (subst (λ (x : Result (Network form.Weight) Refusal). PrintsLoaded form.weighing form.shown x text) (sym is) report) put

@@ -38,11 +38,10 @@ Reports sheet text = ReportsAs (kind_of sheet) sheet text
 abbrev pub PutsReport : {S : Type 0} → (S → List ℕ → S → Type 0) → Kind → List ℕ → S → S → Type 0
 PutsReport took kind sheet start end = (text : List ℕ) × ReportsAs kind sheet text × PutOut took start text end
 
-module _ {K : Type 0} (kind : Weighing K) {S : Type 0} (took : S → List ℕ → S → Type 0) where
-  -- the report of a network, with totals printed as `shown` says, was put out, and nothing else
-  abbrev pub PutsNetwork : (shown : kind.scale.Amount → List ℕ) → Network K → S → S → Type 0
-  PutsNetwork shown n start end = (text : List ℕ) × Report kind shown n text × PutOut took start text end
+-- the report of a network, with totals printed as `shown` says, was put out, and nothing else
+abbrev pub PutsNetwork : {K S : Type 0} (kind : Weighing K) (shown : kind.scale.Amount → List ℕ) → (S → List ℕ → S → Type 0) → Network K → S → S → Type 0
+PutsNetwork kind shown took n start end = (text : List ℕ) × Report kind shown n text × PutOut took start text end
 
-  -- the same, however amounts are printed, if the text of a total is that of its sum
-  abbrev pub PutsWalked : {T : Type 0} (text : T → List ℕ) (sum : T → kind.scale.Amount) → Network K → S → S → Type 0
-  PutsWalked {T} text sum n start end = (shown : kind.scale.Amount → List ℕ) → ((t : T) → text t ≡ shown (sum t)) → PutsNetwork shown n start end
+-- the same, however amounts are printed, if the text of a total is that of its sum
+abbrev pub PutsWalked : {K : Type 0} (kind : Weighing K) {T : Type 0} (text : T → List ℕ) (sum : T → kind.scale.Amount) {S : Type 0} → (S → List ℕ → S → Type 0) → Network K → S → S → Type 0
+PutsWalked kind {T} text sum took n start end = (shown : kind.scale.Amount → List ℕ) → ((t : T) → text t ≡ shown (sum t)) → PutsNetwork kind shown took n start end

@@ -32,6 +32,8 @@ pub fn answer(sheet: &[u8]) -> Answer
     }
 }
 
+// By kind, so that only the places of the kind that is read are cleared.
+
 fn answer_metres(sheet: &[u8]) -> Answer
     ensures { AnswersAs metres sheet.now result }
 {

@@ -33,6 +33,10 @@ pub fn report<S: Sink>(sheet: &[u8], out: &mut S)
     }
 }
 
+// By kind, since code over every kind would have to show that any kind's network and walk fit in memory. A walk is begun
+// in a function of its own: handed on whole in what loading gave, it was cleared and copied, for refused sheets too, and
+// runs took a third longer.
+
 fn report_metres<S: Sink>(sheet: &[u8], out: &mut S)
     ensures { PutsReport S.Sink.took metres sheet.now out.old out.new }
 {
@@ -51,19 +55,16 @@ fn report_crossings<S: Sink>(sheet: &[u8], out: &mut S)
     }
 }
 
-// A walk is begun where its kind is known, since code over every kind would have to show that any kind's walk fits in
-// memory, and in a function of its own, so that a refused sheet pays for no walk's places.
-
 /// Puts the report of a network with metres out.
 fn list_metres<S: Sink>(network: Network<Metres>, out: &mut S)
-    ensures { PutsNetwork by_metres S.Sink.took metres_text network out.old out.new }
+    ensures { PutsNetwork by_metres metres_text S.Sink.took network out.old out.new }
 {
     report_walk(&mut Walk::begin(network), out);
 }
 
 /// Puts the report of a network with crossings and metres out.
 fn list_crossings<S: Sink>(network: Network<Pair<Crossings, Metres>>, out: &mut S)
-    ensures { PutsNetwork (paired by_crossings by_metres) S.Sink.took crossings_text network out.old out.new }
+    ensures { PutsNetwork (paired by_crossings by_metres) crossings_text S.Sink.took network out.old out.new }
 {
     report_walk(&mut Walk::begin(network), out);
 }
@@ -71,7 +72,7 @@ fn list_crossings<S: Sink>(network: Network<Pair<Crossings, Metres>>, out: &mut 
 /// Puts the report of the network that is walked through out.
 fn report_walk<K: Shown, S: Sink>(walk: &mut Walk<K>, out: &mut S)
     requires { place_of walk.old ≡ None }
-    ensures { PutsWalked K.WeightKind.weighing S.Sink.took K.Shown.text K.WeightKind.sum (network_of walk.old) out.old out.new }
+    ensures { PutsWalked K.WeightKind.weighing K.Shown.text K.WeightKind.sum S.Sink.took (network_of walk.old) out.old out.new }
 {
     put_answer(out, sound(walk.network()));
     let (count, letter) = list(walk, out);

@@ -10,5 +10,5 @@ use Rattle.reports.proofs.reporting.list_crossings.Goals as goal
 
 pub returns : goal.returns
 returns g c =
-    subst (λ (n : Network (Pair Crossings Metres)). PutsNetwork (paired by_crossings by_metres) g.S.Sink.took crossings_text n c.args.out.now c.report_walk.new.out) c.begin.ensures.network
+    subst (λ (n : Network (Pair Crossings Metres)). PutsNetwork (paired by_crossings by_metres) crossings_text g.S.Sink.took n c.args.out.now c.report_walk.new.out) c.begin.ensures.network
     (c.report_walk.ensures crossings_text (λ t. refl))

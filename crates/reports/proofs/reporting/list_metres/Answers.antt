@@ -8,5 +8,5 @@ use Rattle.reports.proofs.reporting.list_metres.Goals as goal
 
 pub returns : goal.returns
 returns g c =
-    subst (λ (n : Network Metres). PutsNetwork by_metres g.S.Sink.took metres_text n c.args.out.now c.report_walk.new.out) c.begin.ensures.network
+    subst (λ (n : Network Metres). PutsNetwork by_metres metres_text g.S.Sink.took n c.args.out.now c.report_walk.new.out) c.begin.ensures.network
     (c.report_walk.ensures metres_text (λ t. refl))
