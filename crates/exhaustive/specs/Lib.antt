@@ -1,3 +1,4 @@
+pub mod Choices
 pub mod Sets
 pub mod Trees
 pub mod Trials

@@ -1,10 +1,11 @@
 //! The networks that are gone over.
 
-ghost use Rattle.std.specs.Prelude.{◌≡◌, ℕ, ◌+◌, ◌-◌, ◌*◌, ◌^◌, ◌<◌, ◌≤◌, vec_len, IfOk, OnOk, bit_or};
+ghost use Rattle.std.specs.Prelude.{◌≡◌, ℕ, ◌^◌, ◌<◌, ◌≤◌, bit_or};
+ghost use Rattle.arrayvec.specs.ArrayVec.{array_vec_len};
 ghost use Rattle.exhaustive.specs.Sets.{has};
 
+use arrayvec::ArrayVec;
 use networks::Link;
-use std::alloc::{AllocError, Global};
 use weights::Metres;
 
 /// A link of a network. Links are ordered by rank: by their metres, and by their numbers where these are equal.
@@ -62,51 +63,24 @@ impl Drawn {
     }
 }
 
+/// What stands in the places of a list that hold no link.
+impl Default for Drawn {
+    fn default() -> Self {
+        Drawn {
+            metres: 0,
+            number: 0,
+            from: 0,
+            to: 0,
+        }
+    }
+}
+
 /// A network of 1 to 4 sites and at most 4 links.
 #[derive(Drop)]
 pub struct Case {
     pub sites: u8,
-    pub links: Vec<Drawn>,
+    pub links: ArrayVec<Drawn, 4>,
     ghost some: { 1 ≤ sites },
     ghost few: { sites ≤ 4 },
-    ghost room: { vec_len links ≤ 4 },
-}
-
-/// Adds a link between the two sites of each weight: 0 to 2 metres.
-fn choose_between(choices: &mut Vec<Drawn>, from: u8, to: u8) -> Result<(), AllocError>
-    requires { (from < 4) × (to < 4) }
-    ensures { OnOk result (vec_len choices.new ≡ vec_len choices.old + 3) }
-{
-    for metres in 0..3 {
-        choices.push(Drawn {
-            metres,
-            number: 0,
-            from,
-            to,
-        })?;
-    }
-    Ok(())
-}
-
-/// Adds the links between the site and each that has a lower number.
-fn choose_back(choices: &mut Vec<Drawn>, to: u8) -> Result<(), AllocError>
-    requires { to < 4 }
-    ensures { OnOk result (vec_len choices.new ≡ vec_len choices.old + 3 * to) }
-{
-    for from in 0..to {
-        choose_between(choices, from, to)?;
-    }
-    Ok(())
-}
-
-/// The links that a network of so many sites can have as its first, number 0.
-pub(crate) fn choices(heap: Global, sites: u8) -> Result<Vec<Drawn>, AllocError>
-    requires { sites ≤ 4 }
-    ensures { IfOk result (λ v. 2 * vec_len v ≡ 3 * (sites * (sites - 1))) }
-{
-    let mut choices = Vec::new(heap);
-    for to in 0..sites {
-        choose_back(&mut choices, to)?;
-    }
-    Ok(choices)
+    ghost room: { array_vec_len links ≤ 4 },
 }

@@ -1,14 +1,18 @@
 //! What networks answer, held to what is found by looking at every set of links.
 
-ghost use Rattle.std.specs.Prelude.{◌≡◌, ℕ, ◌+◌, ◌*◌, ◌<◌, ◌≤◌, length, vec_len, slice_index, IfOk, OnOk};
+ghost use Rattle.std.specs.Prelude.{◌≡◌, ℕ, ◌+◌, ◌<◌, ◌≤◌, length, slice_index};
+ghost use Rattle.arrayvec.specs.ArrayVec.{array_vec_len};
 ghost use Rattle.networks.specs.Networks.{links_of};
+ghost use Rattle.exhaustive.specs.Choices.{choices_of, lists_of};
 ghost use Rattle.exhaustive.specs.Trials.{IfJoined};
 
-use crate::cases::{Case, Drawn, choices};
+use crate::cases::{Case, Drawn};
+use crate::choosing::choices;
+use crate::rows::Row;
 use crate::tallies::Tally;
 use crate::trees::class_of;
+use arrayvec::ArrayVec;
 use networks::{Class, Link, Network, Refusal};
-use std::alloc::{AllocError, Global};
 use std::array;
 use weights::Metres;
 
@@ -22,6 +26,13 @@ const CLASSES: [(char, Class); 3] = [
     ('N', Class::Never),
 ];
 
+/// A record that stands for none.
+const BLANK: Link<Metres> = Link {
+    from: 0,
+    to: 0,
+    weight: Metres(0),
+};
+
 /// What a trial must say.
 #[derive(Drop)]
 enum Trial {
@@ -30,12 +41,12 @@ enum Trial {
     /// The sites are no longer joined.
     Apart,
     /// The sites are still joined, and this is the first row.
-    Joined(Vec<Drawn>),
+    Joined(Row),
 }
 
 /// How many links have another class than by the trees.
 fn classes_differing(case: &Case, network: &Network<Metres>, trees: &[u8]) -> usize
-    ensures { result ≤ vec_len case.now.links }
+    ensures { result ≤ array_vec_len case.now.links }
 {
     case.links
         .iter()
@@ -68,129 +79,120 @@ fn written(row: &[Drawn]) -> [u16; 5]
 }
 
 /// What a trial of this link must say.
-fn trial_expected(heap: Global, case: &Case, link: u8) -> Result<Trial, AllocError>
+fn trial_expected(case: &Case, link: u8) -> Trial
     requires { link ≤ 4 }
-    ensures { IfOk result (λ trial. IfJoined trial (λ row. length row ≤ vec_len case.now.links)) }
+    ensures { IfJoined result (λ row. length row ≤ array_vec_len case.now.links) }
 {
     let links = case.all_links();
     if !case.joined(links) {
-        return Ok(Trial::Refused);
+        return Trial::Refused;
     }
-    let trees = case.cheapest(heap, links & !(1 << link))?;
-    Ok(match case.first_row(heap, &trees)? {
+    let trees = case.cheapest(links & !(1 << link));
+    match case.first_row(&trees) {
         Some(row) => Trial::Joined(row),
         None => Trial::Apart,
-    })
+    }
 }
 
 /// Whether a trial differs in what it says or writes.
-fn trial_differs(
-    heap: Global,
-    case: &Case,
-    network: &mut Network<Metres>,
-    link: u8,
-) -> Result<bool, AllocError>
+fn trial_differs(case: &Case, network: &mut Network<Metres>, link: u8) -> bool
     requires { link ≤ 4 }
     ensures { links_of network.new ≡ links_of network.old }
 {
     let mut list = [UNTOUCHED; 5];
     let said = network.trial(u16::from(link), &mut list);
-    let agrees = match (said, trial_expected(heap, case, link)?) {
+    let agrees = match (said, trial_expected(case, link)) {
         (Err(Refusal::TrialNotJoined), Trial::Refused) => list == written(&[]),
         (Ok(false), Trial::Apart) => list == written(&[]),
         (Ok(true), Trial::Joined(row)) => list == written(&row),
         _ => false,
     };
-    Ok(!agrees)
+    !agrees
 }
 
 /// How many trials differ, those of every link and of the number past the last.
-fn trials_differing(
-    heap: Global,
-    case: &Case,
-    network: &mut Network<Metres>,
-) -> Result<u32, AllocError>
-    ensures few { IfOk result (λ different. different ≤ 5) }
+fn trials_differing(case: &Case, network: &mut Network<Metres>) -> u32
+    ensures few { result ≤ 5 }
     ensures leaves { links_of network.new ≡ links_of network.old }
 {
     let mut different = 0;
     for link in 0..case.links.len() as u8 + 1 {
-        different += u32::from(trial_differs(heap, case, network, link)?);
+        different += u32::from(trial_differs(case, network, link));
     }
-    Ok(different)
+    different
+}
+
+/// The record of each link, and a blank one in each place behind the last.
+fn records(case: &Case) -> [Link<Metres>; 4] {
+    array::from_fn(|place| case.links.get(place).map_or(BLANK, |link| link.record()))
 }
 
 /// How many answers of the network differ. One that cannot be opened is a single difference.
-fn differing(heap: Global, case: &Case) -> Result<u32, AllocError>
-    ensures { IfOk result (λ different. different ≤ 12) }
+fn differing(case: &Case) -> u32
+    ensures { result ≤ 12 }
 {
-    let links: Vec<Link<Metres>> = case.links.iter().map(|link| link.record()).collect(heap)?;
-    let Ok(mut network) = Network::open(case.sites, &links) else {
-        return Ok(1);
+    let records = records(case);
+    let Ok(mut network) = Network::open(case.sites, &records[..case.links.len()]) else {
+        return 1;
     };
-    let trees = case.cheapest(heap, case.all_links())?;
+    let trees = case.cheapest(case.all_links());
     let classes = classes_differing(case, &network, &trees) as u32;
     let counts = counts_differing(case, &network, &trees) as u32;
-    Ok(classes + counts + trials_differing(heap, case, &mut network)?)
+    classes + counts + trials_differing(case, &mut network)
 }
 
 /// Compares all answers about one network.
-fn compare(heap: Global, case: &Case) -> Result<Tally, AllocError>
-    ensures { IfOk result (λ tally. tally.networks ≡ 1) }
+fn compare(case: &Case) -> Tally
+    ensures { result.networks ≡ 1 }
 {
     let links = case.links.len() as u32;
-    Ok(Tally {
+    Tally {
         networks: 1,
         classes: links,
         counts: 3,
         trials: links + 1,
-        different: differing(heap, case)?,
-    })
+        different: differing(case),
+    }
 }
 
 /// Compares all answers about the network, and about each that has up to so many more links after its own.
-fn compare_extended(
-    heap: Global,
-    case: &mut Case,
-    choices: &[Drawn],
-    more: u8,
-) -> Result<Tally, AllocError>
-    requires { vec_len case.old.links + more ≤ 4 }
-    ensures compares { IfOk result (λ tally. 1 ≤ tally.networks) }
-    ensures restores { OnOk result (vec_len case.new.links ≡ vec_len case.old.links) }
+fn compare_extended(case: &mut Case, choices: &[Drawn], more: u8) -> Tally
+    requires links { array_vec_len case.old.links + more ≤ 4 }
+    requires choices { length choices.now ≤ 18 }
+    ensures compares { result.networks ≡ lists_of (length choices.now) more }
+    ensures restores { (case.new.sites ≡ case.old.sites) × (case.new.links.items ≡ case.old.links.items) }
 {
-    let mut tally = compare(heap, case)?;
+    let mut tally = compare(case);
     if more > 0 {
         let number = case.links.len() as u8;
         for choice in choices {
-            case.links.push(choice.numbered(number))?;
-            tally += compare_extended(heap, case, choices, more - 1)?;
+            case.links.push(choice.numbered(number));
+            tally += compare_extended(case, choices, more - 1);
             case.links.pop();
         }
     }
-    Ok(tally)
+    tally
 }
 
 /// Compares all answers about the networks of so many sites.
-fn compare_sites(heap: Global, sites: u8) -> Result<Tally, AllocError>
+fn compare_sites(sites: u8) -> Tally
     requires { (1 ≤ sites) × (sites ≤ 4) }
-    ensures { IfOk result (λ tally. 1 ≤ tally.networks) }
+    ensures { result.networks ≡ lists_of (length (choices_of sites)) 4 }
 {
-    let choices = choices(heap, sites)?;
     let mut case = Case {
         sites,
-        links: Vec::new(heap),
+        links: ArrayVec::new(),
     };
-    compare_extended(heap, &mut case, &choices, 4)
+    compare_extended(&mut case, &choices(sites), 4)
 }
 
 /// Compares all answers about all networks.
-pub(crate) fn compare_all(heap: Global) -> Result<Tally, AllocError>
-    ensures { IfOk result (λ tally. 4 ≤ tally.networks) }
+pub(crate) fn compare_all() -> Tally
+    ensures { result.networks ≡ 118654 }
 {
-    let mut tally = compare_sites(heap, 1)?;
+    let mut tally = compare_sites(1);
     for sites in 2..5 {
-        tally += compare_sites(heap, sites)?;
+        tally += compare_sites(sites);
     }
-    Ok(tally)
+    tally
 }

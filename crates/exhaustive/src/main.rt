@@ -4,6 +4,7 @@
 #![tactic(auto)]
 
 mod cases;
+mod choosing;
 mod comparing;
 mod rows;
 mod tallies;
@@ -13,7 +14,7 @@ use comparing::compare_all;
 use std::io;
 
 fn main(rt: HostRuntime) -> io::Result<()> {
-    let t = compare_all(rt.alloc())?;
+    let t = compare_all();
     println!(rt;
         "networks {} classes {} counts {} trials {} different {}",
         t.networks, t.classes, t.counts, t.trials, t.different

@@ -1,15 +1,16 @@
 //! Cheapest trees by looking at every set of links. A set of links is a number below 16: link 0 is 1, link 1 is 2,
 //! link 2 is 4, link 3 is 8; a set of sites likewise.
 
-ghost use Rattle.std.specs.Prelude.{◌≡◌, ℕ, ◌+◌, ◌-◌, ◌*◌, ◌^◌, ◌≤◌, ◌==◌, vec_len, IfOk};
+ghost use Rattle.std.specs.Prelude.{◌≡◌, ℕ, ◌+◌, ◌-◌, ◌*◌, ◌^◌, ◌≤◌, ◌==◌, IfSome};
 ghost use Rattle.std.specs.List.{list_any, list_all};
+ghost use Rattle.arrayvec.specs.ArrayVec.{array_vec_len};
 ghost use Rattle.exhaustive.specs.Sets.{has};
 ghost use Rattle.exhaustive.specs.Trees.{class_in, follow, reach, spans};
 ghost use Rattle.exhaustive.specs.declared.cases.Drawn.{Drawn};
 
 use crate::cases::{Case, Drawn};
+use arrayvec::ArrayVec;
 use networks::Class;
-use std::alloc::{AllocError, Global};
 
 /// The set of so many links or sites, from the first on.
 fn first(many: u8) -> u8
@@ -22,7 +23,7 @@ fn first(many: u8) -> u8
 impl Case {
     /// The set of all links.
     pub(crate) fn all_links(&self) -> u8
-        ensures { result ≡ 2 ^ vec_len self.now.links - 1 }
+        ensures { result ≡ 2 ^ array_vec_len self.now.links - 1 }
     {
         first(self.links.len() as u8)
     }
@@ -67,7 +68,7 @@ impl Case {
         ensures { result ≤ 1020 }
     {
         let mut total = 0;
-        for link in &self.links {
+        for link in self.links.iter() {
             if link.is_in(set) {
                 total += u32::from(link.metres);
             }
@@ -75,22 +76,33 @@ impl Case {
         total
     }
 
-    /// The sets that are cheapest trees of open links.
-    pub(crate) fn cheapest(&self, heap: Global, opened: u8) -> Result<Vec<u8>, AllocError>
-        ensures { IfOk result (λ trees. vec_len trees ≤ 16) }
+    /// The least total of a spanning tree of open links, if there is one.
+    fn least(&self, opened: u8) -> Option<u32>
+        ensures { IfSome result (λ least. least ≤ 1020) }
     {
-        let least = (0..16)
+        (0..16)
             .filter(|set| self.is_tree(opened, *set))
             .map(|set| self.total(set))
-            .min();
-        (0..16)
-            .filter(|set| self.is_tree(opened, *set) && Some(self.total(*set)) == least)
-            .collect(heap)
+            .min()
+    }
+
+    /// The sets that are cheapest trees of open links.
+    pub(crate) fn cheapest(&self, opened: u8) -> ArrayVec<u8, 16>
+        ensures { array_vec_len result ≤ 16 }
+    {
+        let least = self.least(opened);
+        let mut trees = ArrayVec::new();
+        for set in 0..16 {
+            if self.is_tree(opened, set) && Some(self.total(set)) == least {
+                trees.push(set);
+            }
+        }
+        trees
     }
 
     /// How many links have this class.
     pub(crate) fn count_class(&self, trees: &[u8], class: Class) -> usize
-        ensures { result ≤ vec_len self.now.links }
+        ensures { result ≤ array_vec_len self.now.links }
     {
         self.links
             .iter()
