@@ -1,4 +1,5 @@
 pub mod Choices
+pub mod Records
 pub mod Sets
 pub mod Trees
 pub mod Trials

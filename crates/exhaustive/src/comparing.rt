@@ -1,10 +1,12 @@
 //! What networks answer, held to what is found by looking at every set of links.
 
-ghost use Rattle.std.specs.Prelude.{◌≡◌, ℕ, ◌+◌, ◌<◌, ◌≤◌, length, slice_index};
+ghost use Rattle.std.specs.Prelude.{◌≡◌, ℕ, ◌+◌, ◌<◌, ◌≤◌, length, slice_index, slice_index_or};
 ghost use Rattle.arrayvec.specs.ArrayVec.{array_vec_len};
 ghost use Rattle.networks.specs.Networks.{links_of};
 ghost use Rattle.exhaustive.specs.Choices.{choices_of, lists_of};
+ghost use Rattle.exhaustive.specs.Records.{IsRecord};
 ghost use Rattle.exhaustive.specs.Trials.{IfJoined};
+ghost use Rattle.exhaustive.specs.declared.cases.Drawn.{Drawn};
 
 use crate::cases::{Case, Drawn};
 use crate::choosing::choices;
@@ -122,16 +124,18 @@ fn trials_differing(case: &Case, network: &mut Network<Metres>) -> u32
     different
 }
 
-/// The record of each link, and a blank one in each place behind the last.
-fn records(case: &Case) -> [Link<Metres>; 4] {
-    array::from_fn(|place| case.links.get(place).map_or(BLANK, |link| link.record()))
+/// The record of the link at this place, and a blank one behind the last.
+fn record_at(case: &Case, place: usize) -> Link<Metres>
+    ensures { (link : Drawn) → place < array_vec_len case.now.links → IsRecord (slice_index_or case.now.links.items place link) result }
+{
+    case.links.get(place).map_or(BLANK, |link| link.record())
 }
 
 /// How many answers of the network differ. One that cannot be opened is a single difference.
 fn differing(case: &Case) -> u32
     ensures { result ≤ 12 }
 {
-    let records = records(case);
+    let records: [Link<Metres>; 4] = array::from_fn(|place| record_at(case, place));
     let Ok(mut network) = Network::open(case.sites, &records[..case.links.len()]) else {
         return 1;
     };
@@ -187,6 +191,7 @@ fn compare_sites(sites: u8) -> Tally
 }
 
 /// Compares all answers about all networks.
+#[tactic(auto, using(crate::proofs::Counting::one_site_more, crate::proofs::Counting::all_networks))]
 pub(crate) fn compare_all() -> Tally
     ensures { result.networks ≡ 118654 }
 {
