@@ -40,7 +40,7 @@ fn choose_back(choices: &mut Choices, to: u8)
     }
 }
 
-/// The links that a network of so many sites can have as its first, number 0.
+/// The links that a network of so many sites can have as its first, number 0: between any two sites, one of each weight.
 pub(crate) fn choices(sites: u8) -> Choices
     requires { sites ≤ 4 }
     ensures items { map choice_of result.items ≡ choices_of sites }

@@ -86,7 +86,7 @@ impl Case {
             .min()
     }
 
-    /// The sets that are cheapest trees of open links.
+    /// The sets that are cheapest trees of open links. A loop, since `collect` asks for a heap.
     pub(crate) fn cheapest(&self, opened: u8) -> ArrayVec<u8, 16>
         ensures { array_vec_len result ≤ 16 }
     {
