@@ -78,7 +78,7 @@ impl<K: WeightKind> Network<K> {
         self.marked()
     }
 
-    /// The plan, as `plan` gives it.
+    /// The graph with a mark on every link, and its links in rank order.
     fn marked(&self) -> Plan
         ensures graph { graph_of result ≡ network_graph self.now }
         ensures alike { Alike numbers K.WeightKind.weighing.scale (mark_of result) (weights_of K.WeightKind.weighing self.now) (length (links_of self.now)) }

@@ -34,8 +34,8 @@ pub fn report<S: Sink>(sheet: &[u8], out: &mut S)
 }
 
 // By kind, since code over every kind would have to show that any kind's network and walk fit in memory. A walk is begun
-// in a function of its own: handed on whole in what loading gave, it was cleared and copied, for refused sheets too, and
-// runs took a third longer.
+// in a function of its own: handed on whole in what loading gives it is cleared and copied, for refused sheets too, and
+// runs take a third longer.
 
 fn report_metres<S: Sink>(sheet: &[u8], out: &mut S)
     ensures { PutsReport S.Sink.took metres sheet.now out.old out.new }

@@ -82,7 +82,8 @@ impl<K: WeightKind> Walk<K> {
         self.pour_into(receiver, limit)
     }
 
-    /// Pours. The long proof is this function's, so that a wrong call in `pour` falls at what `pour` promises.
+    /// Pours, and says how it ended as `pour` does.
+    // Apart from `pour`, so that a wrong call there is refused for what `pour` promises.
     fn pour_into<R: Receiver>(&mut self, receiver: &mut R, limit: u32) -> (u32, char)
         ensures acts { PourActs self.old self.new (R.Receiver.rule receiver.old) (R.Receiver.held receiver.old) limit result.0 result.1 (R.Receiver.held receiver.new) }
         ensures stays { network_of self.new ≡ network_of self.old }

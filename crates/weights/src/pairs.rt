@@ -55,9 +55,8 @@ impl<P: WeightKind, Q: WeightKind> WeightKind for Pair<P, Q> {
     ghost few = { Prim.search rules };
 
     fn at_most(&self, other: &Pair<P, Q>) -> bool {
-        // By hand, since weights of a kind are ordered by their amounts on its scale alone, and no derived order says that.
-        // The second sides are compared only where they decide, so that pairs of pairs cost no more than they must. The
-        // first are compared both ways beforehand: then nothing branches on which is lower, but on their being equal alone.
+        // By hand, since weights of a kind are ordered by their amounts on its scale alone, and no derived order says that. The
+        // second sides are compared only where the first are equal; these both ways before anything branches, which is quicker.
         let there = self.first.at_most(&other.first);
         let back = other.first.at_most(&self.first);
         if there && back {
