@@ -55,14 +55,12 @@ impl<P: WeightKind, Q: WeightKind> WeightKind for Pair<P, Q> {
     ghost few = { Prim.search rules };
 
     fn at_most(&self, other: &Pair<P, Q>) -> bool {
-        // By hand, since weights of a kind are ordered by their amounts on its scale alone, and no derived order says that. The
-        // second sides are compared only where the first are equal; these both ways before anything branches, which is quicker.
-        let there = self.first.at_most(&other.first);
-        let back = other.first.at_most(&self.first);
-        if there && back {
+        // By hand, since weights of a kind are ordered by their amounts on its scale alone, and no derived order says that.
+        // Each further comparison is made only where it decides, or pairs of pairs would cost a power of their depth.
+        if self.first.at_most(&other.first) && other.first.at_most(&self.first) {
             self.second.at_most(&other.second)
         } else {
-            there
+            self.first.at_most(&other.first)
         }
     }
 
@@ -95,11 +93,12 @@ impl<P: WeightKind, Q: WeightKind> WeightKind for Pair<P, Q> {
         first: &PairTotal<P::Total, Q::Total>,
         second: &PairTotal<P::Total, Q::Total>,
     ) -> bool {
-        let there = P::total_at_most(&first.firsts, &second.firsts);
-        if there && P::total_at_most(&second.firsts, &first.firsts) {
+        if P::total_at_most(&first.firsts, &second.firsts)
+            && P::total_at_most(&second.firsts, &first.firsts)
+        {
             Q::total_at_most(&first.seconds, &second.seconds)
         } else {
-            there
+            P::total_at_most(&first.firsts, &second.firsts)
         }
     }
 }
