@@ -2,9 +2,10 @@
 use Rattle.std.proofs.Common.{◌≡◌, ℕ, ◌+◌, ◌-◌, ◌≤◌, List, [], ◌∷◌, ◌++◌, length, None, Option, sym, refl, ap, ◌∙◌, subst, inl, inr, append_assoc, arith}
 use Rattle.std.proofs.lemmas.List.{length-append}
 use Rattle.forests.specs.Graphs.{SitesJoined}
-use Rattle.weights.specs.declared.kinds.WeightKind.{Ghosts}
+use Rattle.weights.specs.Scales.{Weighing}
 use Rattle.networks.specs.Networks.{network_graph}
 use Rattle.networks.specs.declared.networks.Network.{Network}
+use Rattle.walks.specs.Acts.{Stays}
 use Rattle.walks.specs.Answering.{letter_f}
 use Rattle.walks.specs.Places.{NextMembers, last_of}
 use Rattle.walks.specs.Walks.{network_of, place_of, Listed}
@@ -22,27 +23,27 @@ lines_append [] ys = refl
 lines_append (x ∷ xs) ys = ap (λ zs. line_of x ++ zs) (lines_append xs ys) ∙ sym (append_assoc (line_of x) (lines_of xs) (lines_of ys))
 
 -- The lines of the first so many rows were put out on the way from `before` to `now`.
-pub record Gone {K T : Type 0} {kind : Ghosts K T} (before now : Walk K T kind) {S : Type 0} (took : S → List ℕ → S → Type 0) (start here : S) (count : ℕ) : Type 0 where
-  pub stays : network_of now ≡ network_of before
-  pub so_far : (L : List (List ℕ)) → Listed kind.weighing (network_of before) L
+pub record Gone {K : Type 0} (kind : Weighing K) (before now : Walk K) {S : Type 0} (took : S → List ℕ → S → Type 0) (start here : S) (count : ℕ) : Type 0 where
+  pub stays : Stays kind before now
+  pub so_far : (L : List (List ℕ)) → Listed kind (network_of before) L
       → (rows : List (List ℕ)) × (length rows ≡ count) × NextMembers L None rows × (place_of now ≡ last_of None rows) × PutOut took start (lines_of rows) here
 
-module _ {K T : Type 0} {kind : Ghosts K T} (before : Walk K T kind) {S : Type 0} (took : S → List ℕ → S → Type 0) (start : S) where
-  pub gone_none : place_of before ≡ None → Gone before before took start start 0
+module _ {K : Type 0} (kind : Weighing K) (before : Walk K) {S : Type 0} (took : S → List ℕ → S → Type 0) (start : S) where
+  pub gone_none : place_of before ≡ None → Gone kind before before took start start 0
   gone_none none = record {
-    stays = refl;
+    stays = record { network = refl; begun = λ b. b };
     so_far = λ L full. ([], refl, (L, refl), none, nothing refl refl);
   }
 
-  module _ (now next : Walk K T kind) (here here' : S) (limit count taken letter : ℕ) (text : List ℕ)
-      (gone : Gone before now took start here count) (fills : FillsPlaces now next (limit - count) taken letter text)
-      (stays : network_of next ≡ network_of now) (put : took here text here') where
-    filled : (L : List (List ℕ)) → Listed kind.weighing (network_of before) L → Fills L (SitesJoined (network_graph (network_of before))) (place_of now) (limit - count) taken letter (place_of next) text
+  module _ (now next : Walk K) (here here' : S) (limit count taken letter : ℕ) (text : List ℕ)
+      (gone : Gone kind before now took start here count) (fills : FillsPlaces kind now next (limit - count) taken letter text)
+      (stays : Stays kind now next) (put : took here text here') where
+    filled : (L : List (List ℕ)) → Listed kind (network_of before) L → Fills L (SitesJoined (network_graph (network_of before))) (place_of now) (limit - count) taken letter (place_of next) text
     filled L full =
-        subst (λ (n : Network K). Fills L (SitesJoined (network_graph n)) (place_of now) (limit - count) taken letter (place_of next) text) gone.stays
-        (fills L (subst (λ (n : Network K). Listed kind.weighing n L) (sym gone.stays) full))
+        subst (λ (n : Network K). Fills L (SitesJoined (network_graph n)) (place_of now) (limit - count) taken letter (place_of next) text) gone.stays.network
+        (fills L (subst (λ (n : Network K). Listed kind n L) (sym gone.stays.network) full))
 
-    more : (L : List (List ℕ)) → Listed kind.weighing (network_of before) L
+    more : (L : List (List ℕ)) → Listed kind (network_of before) L
         → (rows : List (List ℕ)) × (length rows ≡ count + taken) × NextMembers L None rows × (place_of next ≡ last_of None rows) × PutOut took start (lines_of rows) here'
     more L full =
         let (rows, long, begins, place, out) = gone.so_far L full in
@@ -55,9 +56,9 @@ module _ {K T : Type 0} {kind : Ghosts K T} (before : Walk K T kind) {S : Type 0
           one_more (lines_of rows) text here out put (lines_append rows rows' ∙ ap (λ zs. lines_of rows ++ zs) (sym is)),
         )
 
-    pub gone_more : Gone before next took start here' (count + taken)
+    pub gone_more : Gone kind before next took start here' (count + taken)
     gone_more = record {
-      stays = stays ∙ gone.stays;
+      stays = record { network = stays.network ∙ gone.stays.network; begun = λ b. stays.begun (gone.stays.begun b) };
       so_far = more;
     }
 
@@ -67,7 +68,7 @@ module _ {K T : Type 0} {kind : Ghosts K T} (before : Walk K T kind) {S : Type 0
     stops L J few (no_more j last l) = no_more j last l
 
     -- Not for want of places: for the reason that its letter says.
-    pub gone_ends : count ≤ limit → (letter ≡ letter_f → ⊥) → ListsRows before next took start here' limit (count + taken) letter
+    pub gone_ends : count ≤ limit → (letter ≡ letter_f → ⊥) → ListsRows kind before next took start here' limit (count + taken) letter
     gone_ends few other L full =
         let (rows, long, begins, place, out) = more L full in
         let (_, _, _, _, _, why) = filled L full in (

@@ -3,8 +3,7 @@ use Rattle.std.proofs.Common.{◌≡◌, ℕ, ◌<◌, List, [], ◌∷◌, ◌+
 use Rattle.forests.specs.Graphs.{SitesJoined}
 use Rattle.forests.specs.Lists.{In}
 use Rattle.forests.proofs.Members.{in_left}
-use Rattle.weights.specs.Scales.{Lawful, sum_of}
-use Rattle.weights.specs.declared.kinds.WeightKind.{Ghosts}
+use Rattle.weights.specs.Scales.{Lawful, Weighing, sum_of}
 use Rattle.cheapest.specs.Trees.{Cheapest}
 use Rattle.cheapest.proofs.Theorems.{one_list}
 use Rattle.networks.specs.Networks.{sites_of, links_of, network_graph, weights_of}
@@ -31,35 +30,35 @@ in_some : (row : List ℕ) (rows : List (List ℕ)) → In row rows → 0 < leng
 in_some row [] m = absurd m
 in_some row (x ∷ rows) m = omega arith
 
-module _ {K T : Type 0} {kind : Ghosts K T} (laws : Lawful kind.weighing.scale) (text : T → List ℕ) (before after : Walk K T kind) where
+module _ {K T : Type 0} (kind : Weighing K) (sum : T → kind.scale.Amount) (laws : Lawful kind.scale) (text : T → List ℕ) (before after : Walk K) where
   abbrev n : Network K
   n = network_of before
 
-  abbrev w : ℕ → kind.weighing.scale.Amount
-  w = weights_of kind.weighing n
+  abbrev w : ℕ → kind.scale.Amount
+  w = weights_of kind n
 
   -- every cheapest tree has the same total
-  one_total : (r r' : List ℕ) → Cheapest (network_graph n) kind.weighing.scale w r → Cheapest (network_graph n) kind.weighing.scale w r' → sum_of kind.weighing.scale (map w r) ≡ sum_of kind.weighing.scale (map w r')
-  one_total r r' c c' = laws.antisym (sum_of kind.weighing.scale (map w r)) (sum_of kind.weighing.scale (map w r')) (c.least r' c'.row.tree) (c'.least r c.row.tree)
+  one_total : (r r' : List ℕ) → Cheapest (network_graph n) kind.scale w r → Cheapest (network_graph n) kind.scale w r' → sum_of kind.scale (map w r) ≡ sum_of kind.scale (map w r')
+  one_total r r' c c' = laws.antisym (sum_of kind.scale (map w r)) (sum_of kind.scale (map w r')) (c.least r' c'.row.tree) (c'.least r c.row.tree)
 
   -- the text of a total, by its sum
-  shown_total : (shown : kind.weighing.scale.Amount → List ℕ) → ((t : T) → text t ≡ shown (kind.sum t)) → (total : Option T) (a : kind.weighing.scale.Amount) → MatchOption total ⊥ (λ t. kind.sum t ≡ a) → total_text text total ≡ shown a
+  shown_total : (shown : kind.scale.Amount → List ℕ) → ((t : T) → text t ≡ shown (sum t)) → (total : Option T) (a : kind.scale.Amount) → MatchOption total ⊥ (λ t. sum t ≡ a) → total_text text total ≡ shown a
   shown_total shown by None a is = absurd is
   shown_total shown by (Some t) a is = by t ∙ ap shown is
 
   module _ {S : Type 0} (took : S → List ℕ → S → Type 0) (start listing listed end : S) (count letter : ℕ) (each : Option T)
-      (same : network_of after ≡ n) (lists : ListsPrinted before after took listing listed count letter) (totals : EachOf after count each) where
-    total_of : (L : List (List ℕ)) → Listed kind.weighing n L → (here row : List ℕ) → 0 < count → place_of after ≡ Some here → In here L → In row L → MatchOption each ⊥ (λ t. kind.sum t ≡ sum_of kind.weighing.scale (map w row))
+      (same : network_of after ≡ n) (lists : ListsPrinted kind before after took listing listed count letter) (totals : EachOf kind sum after count each) where
+    total_of : (L : List (List ℕ)) → Listed kind n L → (here row : List ℕ) → 0 < count → place_of after ≡ Some here → In here L → In row L → MatchOption each ⊥ (λ t. sum t ≡ sum_of kind.scale (map w row))
     total_of L full here row some place m m' =
         let c = full.sound here m in
-        let priced : AllPriced (links_of n) here = λ k inside. (let few = row_few kind.weighing n L full here c in omega arith, row_links kind.weighing n L full here c k inside) in
-        subst (λ (a : kind.weighing.scale.Amount). MatchOption each ⊥ (λ t. kind.sum t ≡ a)) (one_total here row c (full.sound row m'))
-        (subst (λ (k : Network K). TotalOf kind.weighing kind.sum (links_of k) here each) same
-        (subst (λ (r : List ℕ). TotalOf kind.weighing kind.sum (links_of (network_of after)) r each) (ap row_at place) (totals.1 some)) priced)
+        let priced : AllPriced (links_of n) here = λ k inside. (let few = row_few kind n L full here c in omega arith, row_links kind n L full here c k inside) in
+        subst (λ (a : kind.scale.Amount). MatchOption each ⊥ (λ t. sum t ≡ a)) (one_total here row c (full.sound row m'))
+        (subst (λ (k : Network K). TotalOf kind sum (links_of k) here each) same
+        (subst (λ (r : List ℕ). TotalOf kind sum (links_of (network_of after)) r each) (ap row_at place) (totals.1 some)) priced)
 
-    pub report_of : PutOut took start (sound_line (sites_of n) (length (links_of n)) ++ (10 ∷ [])) listing → PutOut took listed (last_line count (total_text text each) letter) end → PutsWalked kind.weighing text kind.sum took n start end
+    pub report_of : PutOut took start (sound_line (sites_of n) (length (links_of n)) ++ (10 ∷ [])) listing → PutOut took listed (last_line count (total_text text each) letter) end → PutsWalked kind text sum took n start end
     report_of begins ends shown by =
-        let list = one_list kind.weighing.scale laws (network_graph n) (network_fits n) w in
+        let list = one_list kind.scale laws (network_graph n) (network_fits n) w in
         let (rows, long, put, printed, on) = lists list.0 list.1 in
         let all : List ℕ = (sound_line (sites_of n) (length (links_of n)) ++ (10 ∷ [])) ++ (lines_of rows ++ last_line (length rows) (total_text text each) letter) in (
           all,
@@ -74,7 +73,7 @@ module _ {K T : Type 0} {kind : Ghosts K T} (laws : Lawful kind.weighing.scale) 
             total = λ row m.
                 let some : 0 < count = (let many = in_some row rows m in omega arith) in
                 let (here, place, member) = on some in
-                shown_total shown by each (sum_of kind.weighing.scale (map w row)) (total_of list.0 list.1 here row some place member (printed_in list.0 (SitesJoined (network_graph n)) rows letter printed row m));
+                shown_total shown by each (sum_of kind.scale (map w row)) (total_of list.0 list.1 here row some place member (printed_in list.0 (SitesJoined (network_graph n)) rows letter printed row m));
             whole = refl;
           },
           put_both took start listing end _ _ begins (put_both took listing listed end _ _ put (subst (λ (k : ℕ). PutOut took listed (last_line k (total_text text each) letter) end) (sym long) ends)),

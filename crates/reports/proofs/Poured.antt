@@ -6,7 +6,6 @@ use Rattle.std.proofs.lemmas.Bool.{cases_lt, le-leb}
 use Rattle.forests.specs.Graphs.{SitesJoined}
 use Rattle.forests.proofs.Members.{in_get_d}
 use Rattle.weights.specs.Scales.{Lawful, Weighing}
-use Rattle.weights.specs.declared.kinds.WeightKind.{Ghosts}
 use Rattle.cheapest.specs.Ranks.{rank}
 use Rattle.cheapest.specs.Trees.{Cheapest}
 use Rattle.cheapest.proofs.Theorems.{one_list}
@@ -19,7 +18,7 @@ use Rattle.walks.specs.Acts.{PourActs}
 use Rattle.walks.specs.Answering.{EndsFor, at_limit, no_tree, no_more, not_taken, letter_f}
 use Rattle.walks.specs.Places.{Comes, last_of}
 use Rattle.walks.specs.Taking.{Declines, AllTaken}
-use Rattle.walks.specs.Walks.{network_of, place_of, Listed}
+use Rattle.walks.specs.Walks.{network_of, place_of, Listed, Begun}
 use Rattle.walks.specs.declared.walks.Walk.{Walk}
 use Rattle.walks.proofs.Alikes.{network_fits}
 use Rattle.walks.proofs.Listed.{comes_member}
@@ -73,17 +72,17 @@ module _ {K : Type 0} (kind : Weighing K) (n : Network K) (L : List (List ℕ)) 
   pub comes_short : (here : Option (List ℕ)) (row : List ℕ) → Comes L here row → ShortRow row
   comes_short here row c = row_short row (comes_member (rank (network_graph n) kind.scale (weights_of kind n)) (Cheapest (network_graph n) kind.scale (weights_of kind n)) L full here (row ∷ []) c row (inl refl))
 
-module _ {K T : Type 0} {kind : Ghosts K T} (laws : Lawful kind.weighing.scale) (before after : Walk K T kind) (room limit count letter : ℕ) (held' text : List ℕ)
-    (acts : PourActs before after (writing room) [] limit count letter held') (same : text ≡ held') where
+module _ {K : Type 0} (kind : Weighing K) (laws : Lawful kind.scale) (before after : Walk K) (room limit count letter : ℕ) (held' text : List ℕ)
+    (acts : PourActs kind before after (writing room) [] limit count letter held') (begun : Begun kind before) (same : text ≡ held') where
   stops : (L : List (List ℕ)) (J : Type 0) (here : Option (List ℕ)) (held : List ℕ) → EndsFor L J (writing room) limit count here held letter → (letter ≡ letter_f) ⊎ Stops L J limit count here letter
   stops L J here held (at_limit e l) = inr (stops-at-limit e l)
   stops L J here held (no_tree u j l) = inr (stops-no-tree j l)
   stops L J here held (no_more u j last l) = inr (stops-no-more j last l)
   stops L J here held (not_taken u j last row comes d l) = inl l
 
-  pub poured_fills : FillsPlaces before after limit count letter text
+  pub poured_fills : FillsPlaces kind before after limit count letter text
   poured_fills L full =
-      let (rows, long, next, pours, place, hold) = acts L full in (
+      let (rows, long, next, pours, place, hold) = acts begun L full in (
         rows,
         long,
         next,
@@ -94,12 +93,12 @@ module _ {K T : Type 0} {kind : Ghosts K T} (laws : Lawful kind.weighing.scale) 
             (subst (λ (k : ℕ). EndsFor L (SitesJoined (network_graph (network_of before))) (writing room) limit k (last_of (place_of before) rows) (held_after_all (writing room) [] rows) letter) long pours.ends)),
       )
 
-  list : (L : List (List ℕ)) × Listed kind.weighing (network_of before) L
-  list = let found = one_list kind.weighing.scale laws (network_graph (network_of before)) (network_fits (network_of before)) (weights_of kind.weighing (network_of before)) in (found.0, found.1)
+  list : (L : List (List ℕ)) × Listed kind (network_of before) L
+  list = let found = one_list kind.scale laws (network_graph (network_of before)) (network_fits (network_of before)) (weights_of kind (network_of before)) in (found.0, found.1)
 
   pub poured_within : count ≤ limit
   poured_within =
-      let (rows, long, next, pours, place, hold) = acts list.0 list.1 in
+      let (rows, long, next, pours, place, hold) = acts begun list.0 list.1 in
       let w = pours.within in
       omega arith
 
@@ -110,12 +109,12 @@ module _ {K T : Type 0} {kind : Ghosts K T} (laws : Lawful kind.weighing.scale) 
   one_taken J [] long many l (no_tree u j l') = absurd (omega arith)
   one_taken J [] long many l (no_more u j last l') = absurd (omega arith)
   one_taken J [] long many l (not_taken u j last row comes d l') =
-      absurd (not_declined room row many (comes_short kind.weighing (network_of before) list.0 list.1 (place_of before) row comes) d)
+      absurd (not_declined room row many (comes_short kind (network_of before) list.0 list.1 (place_of before) row comes) d)
 
   -- where a line did not fit, lines were written before it
   pub poured_some : 378 ≤ room → letter ≡ letter_f → 0 < count
   poured_some many l =
-      let (rows, long, next, pours, place, hold) = acts list.0 list.1 in
+      let (rows, long, next, pours, place, hold) = acts begun list.0 list.1 in
       one_taken (SitesJoined (network_graph (network_of before))) rows long many l pours.ends
 
 -- what stands in front of the places, where they hold this and then others

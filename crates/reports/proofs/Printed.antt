@@ -4,7 +4,6 @@ use Rattle.forests.specs.Graphs.{SitesJoined}
 use Rattle.forests.specs.Lists.{In}
 use Rattle.forests.proofs.Members.{in_left}
 use Rattle.weights.specs.Scales.{Lawful, Weighing}
-use Rattle.weights.specs.declared.kinds.WeightKind.{Ghosts}
 use Rattle.cheapest.specs.Ranks.{rank}
 use Rattle.cheapest.specs.Trees.{Cheapest}
 use Rattle.cheapest.proofs.Theorems.{one_list}
@@ -60,27 +59,27 @@ module _ {K : Type 0} (kind : Weighing K) (n : Network K) (L : List (List ℕ)) 
   no_rows [] next none = refl
   no_rows (row ∷ rows) next none = absurd (none (let (last, is, member) = on_row (row ∷ rows) (omega arith) next in rows_joined last member))
 
-module _ {K T : Type 0} {kind : Ghosts K T} (before now : Walk K T kind) {S : Type 0} (took : S → List ℕ → S → Type 0) (start end : S)
-    (count letter : ℕ) (lists : ListsRows before now took start end 1000 count letter) where
+module _ {K : Type 0} (kind : Weighing K) (before now : Walk K) {S : Type 0} (took : S → List ℕ → S → Type 0) (start end : S)
+    (count letter : ℕ) (lists : ListsRows kind before now took start end 1000 count letter) where
   abbrev J : Type 0
   J = SitesJoined (network_graph (network_of before))
 
-  other_printed : (L : List (List ℕ)) → Listed kind.weighing (network_of before) L → (rows : List (List ℕ)) → length rows ≡ count → count ≤ 1000 → NextMembers L None rows → place_of now ≡ last_of None rows
+  other_printed : (L : List (List ℕ)) → Listed kind (network_of before) L → (rows : List (List ℕ)) → length rows ≡ count → count ≤ 1000 → NextMembers L None rows → place_of now ≡ last_of None rows
       → (letter ≡ letter_l → ⊥) → Stops L J 1000 count (place_of now) letter → Printed L J rows letter
   other_printed L full rows long few next place other (at_limit e l) = absurd (other l)
-  other_printed L full rows long few next place other (no_tree j l) = prints-none j (no_rows kind.weighing (network_of before) L full rows next j) l
+  other_printed L full rows long few next place other (no_tree j l) = prints-none j (no_rows kind (network_of before) L full rows next j) l
   other_printed L full rows long few next place other (no_more j last l) =
-      prints-all j (omega arith) (ends_here kind.weighing (network_of before) L full rows next (subst (λ (o : Option (List ℕ)). IsLast L o) place last)) l
+      prints-all j (omega arith) (ends_here kind (network_of before) L full rows next (subst (λ (o : Option (List ℕ)). IsLast L o) place last)) l
 
   -- it ended before the limit
-  pub listed_other : count ≤ 1000 → (letter ≡ letter_l → ⊥) → ListsPrinted before now took start end count letter
+  pub listed_other : count ≤ 1000 → (letter ≡ letter_l → ⊥) → ListsPrinted kind before now took start end count letter
   listed_other few other L full =
       let (rows, long, next, place, put, why) = lists L full in (
         rows,
         long,
         put,
         other_printed L full rows long few next place other why,
-        λ some. let (row, is, member) = on_row kind.weighing (network_of before) L full rows (omega arith) next in (row, place ∙ is, member),
+        λ some. let (row, is, member) = on_row kind (network_of before) L full rows (omega arith) next in (row, place ∙ is, member),
       )
 
   limit_count : (L : List (List ℕ)) → letter ≡ letter_l → Stops L J 1000 count (place_of now) letter → count ≡ 1000
@@ -88,28 +87,28 @@ module _ {K T : Type 0} {kind : Ghosts K T} (before now : Walk K T kind) {S : Ty
   limit_count L l (no_tree j l') = absurd (omega arith)
   limit_count L l (no_more j last l') = absurd (omega arith)
 
-  module _ (next : Walk K T kind) (is-limit : letter ≡ letter_l) (same : network_of now ≡ network_of before) where
-    listed_now : (L : List (List ℕ)) → Listed kind.weighing (network_of before) L → Listed kind.weighing (network_of now) L
-    listed_now L full = subst (λ (n : Network K). Listed kind.weighing n L) (sym same) full
+  module _ (next : Walk K) (is-limit : letter ≡ letter_l) (same : network_of now ≡ network_of before) where
+    listed_now : (L : List (List ℕ)) → Listed kind (network_of before) L → Listed kind (network_of now) L
+    listed_now L full = subst (λ (n : Network K). Listed kind n L) (sym same) full
 
     -- a row follows
-    pub listed_more : SaysFollows now next true → ListsPrinted before next took start end count letter_l
+    pub listed_more : SaysFollows kind now next true → ListsPrinted kind before next took start end count letter_l
     listed_more follows L full =
         let (rows, long, members, place, put, why) = lists L full in
         let (row, comes, on) = follows L (listed_now L full) in
         let comes' = subst (λ (o : Option (List ℕ)). Comes L o row) place comes in
-        let member = row_listed kind.weighing (network_of before) L full (last_of None rows) row comes' in
-        let (after, is) = goes_on kind.weighing (network_of before) L full rows row members comes' in
-        (rows, long, put, prints-first (rows_joined kind.weighing (network_of before) L full row member) (long ∙ limit_count L is-limit why) row after is refl, λ some. (row, on, member))
+        let member = row_listed kind (network_of before) L full (last_of None rows) row comes' in
+        let (after, is) = goes_on kind (network_of before) L full rows row members comes' in
+        (rows, long, put, prints-first (rows_joined kind (network_of before) L full row member) (long ∙ limit_count L is-limit why) row after is refl, λ some. (row, on, member))
 
     -- none follows
-    pub listed_last : SaysFollows now next false → ListsPrinted before next took start end count letter_x
+    pub listed_last : SaysFollows kind now next false → ListsPrinted kind before next took start end count letter_x
     listed_last follows L full =
         let (rows, long, members, place, put, why) = lists L full in
         let (none, stays) = follows L (listed_now L full) in
         let many = limit_count L is-limit why in
-        let (row, is, member) = on_row kind.weighing (network_of before) L full rows (omega arith) members in
-        let joined = rows_joined kind.weighing (network_of before) L full row member in
+        let (row, is, member) = on_row kind (network_of before) L full rows (omega arith) members in
+        let joined = rows_joined kind (network_of before) L full row member in
         let last : IsLast L (place_of now) = elim none [
           | inl j ↦ absurd (j (subst (λ (n : Network K). SitesJoined (network_graph n)) (sym same) joined))
           | inr last ↦ last
@@ -117,7 +116,7 @@ module _ {K T : Type 0} {kind : Ghosts K T} (before now : Walk K T kind) {S : Ty
           rows,
           long,
           put,
-          prints-all joined (omega arith) (ends_here kind.weighing (network_of before) L full rows members (subst (λ (o : Option (List ℕ)). IsLast L o) place last)) refl,
+          prints-all joined (omega arith) (ends_here kind (network_of before) L full rows members (subst (λ (o : Option (List ℕ)). IsLast L o) place last)) refl,
           λ some. (row, stays ∙ place ∙ is, member),
         )
 
@@ -126,8 +125,8 @@ module _ {K T : Type 0} {kind : Ghosts K T} (before now : Walk K T kind) {S : Ty
   letter_of L (no_tree j l) = omega arith
   letter_of L (no_more j last l) = omega arith
 
-  pub letter_small : Lawful kind.weighing.scale → letter < 128
+  pub letter_small : Lawful kind.scale → letter < 128
   letter_small laws =
-      let list = one_list kind.weighing.scale laws (network_graph (network_of before)) (network_fits (network_of before)) (weights_of kind.weighing (network_of before)) in
+      let list = one_list kind.scale laws (network_graph (network_of before)) (network_fits (network_of before)) (weights_of kind (network_of before)) in
       let (rows, long, next, place, put, why) = lists list.0 list.1 in
       letter_of list.0 why

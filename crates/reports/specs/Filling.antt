@@ -3,7 +3,7 @@
 use Rattle.std.specs.Prelude.{◌≡◌, ℕ, ◌<◌, Bool, true, false, ◌⊎◌, List, length, Some, None, Option}
 use Rattle.forests.specs.Graphs.{SitesJoined}
 use Rattle.forests.specs.Lists.{In}
-use Rattle.weights.specs.declared.kinds.WeightKind.{Ghosts}
+use Rattle.weights.specs.Scales.{Weighing}
 use Rattle.networks.specs.Networks.{network_graph}
 use Rattle.walks.specs.Answering.{letter_l, letter_z, letter_x, letter_f}
 use Rattle.walks.specs.Places.{NextMembers, Comes, IsLast, last_of}
@@ -24,10 +24,10 @@ Fills L J here limit count letter here' text =
     (rows : List (List ℕ)) × (length rows ≡ count) × NextMembers L here rows × (here' ≡ last_of here rows) × (text ≡ lines_of rows)
     × ((letter ≡ letter_f) ⊎ Stops L J limit count here' letter)
 
-module _ {K T : Type 0} {kind : Ghosts K T} (before after : Walk K T kind) where
+module _ {K : Type 0} (kind : Weighing K) (before after : Walk K) where
   -- Every full list of the network that is walked through has the property.
   abbrev pub OfFullList : ((L : List (List ℕ)) (J : Type 0) → Type 0) → Type 0
-  OfFullList P = (L : List (List ℕ)) → Listed kind.weighing (network_of before) L → P L (SitesJoined (network_graph (network_of before)))
+  OfFullList P = (L : List (List ℕ)) → Listed kind (network_of before) L → P L (SitesJoined (network_graph (network_of before)))
 
   -- Places were filled with lines.
   abbrev pub FillsPlaces : (limit count letter : ℕ) (text : List ℕ) → Type 0

@@ -1,7 +1,6 @@
 -- The total of each row, and its text.
 use Rattle.std.specs.Prelude.{◌≡◌, ℕ, ◌<◌, List, map, length, Some, None, Option, MatchOption, codes}
 use Rattle.weights.specs.Scales.{sum_of, Weighing}
-use Rattle.weights.specs.declared.kinds.WeightKind.{Ghosts}
 use Rattle.networks.specs.Links.{weight_of}
 use Rattle.networks.specs.Networks.{links_of}
 use Rattle.networks.specs.Pricing.{Priced}
@@ -24,6 +23,6 @@ module _ {K : Type 0} where
     abbrev pub TotalOf : List (Link K) → List ℕ → Option T → Type 0
     TotalOf links row total = AllPriced links row → MatchOption total ⊥ (λ t. sum t ≡ sum_of kind.scale (map (weight_of kind links) row))
 
-  -- the total of each of so many rows: none where there is no row, else the total of the walk's row
-  abbrev pub EachOf : {T : Type 0} {kind : Ghosts K T} → Walk K T kind → ℕ → Option T → Type 0
-  EachOf {kind = kind} walk count total = (count ≡ 0 → total ≡ None) × (0 < count → TotalOf kind.weighing kind.sum (links_of (network_of walk)) (row_at (place_of walk)) total)
+    -- the total of each of so many rows: none where there is no row, else the total of the walk's row
+    abbrev pub EachOf : Walk K → ℕ → Option T → Type 0
+    EachOf walk count total = (count ≡ 0 → total ≡ None) × (0 < count → TotalOf (links_of (network_of walk)) (row_at (place_of walk)) total)

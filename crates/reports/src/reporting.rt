@@ -2,7 +2,7 @@
 
 ghost use Rattle.std.specs.Prelude.{◌≡◌, ℕ, ◌<◌, List, [], ◌∷◌, ◌++◌, None, Ok};
 ghost use Rattle.weights.specs.Weighings.{by_metres, by_crossings, paired};
-ghost use Rattle.walks.specs.Walks.{network_of, place_of};
+ghost use Rattle.walks.specs.Walks.{network_of, place_of, Begun};
 ghost use Rattle.reports.specs.Answers.{kind_of, counts_of, line_of_answer};
 ghost use Rattle.reports.specs.Kinds.{metres_text, crossings_text};
 ghost use Rattle.reports.specs.Listing.{last_line};
@@ -71,7 +71,8 @@ fn list_crossings<S: Sink>(network: Network<Pair<Crossings, Metres>>, out: &mut 
 
 /// Puts the report of the network that is walked through out.
 fn report_walk<K: Shown, S: Sink>(walk: &mut Walk<K>, out: &mut S)
-    requires { place_of walk.old ≡ None }
+    requires begun { Begun K.WeightKind.weighing walk.old }
+    requires before { place_of walk.old ≡ None }
     ensures { PutsWalked K.WeightKind.weighing K.Shown.text K.WeightKind.sum S.Sink.took (network_of walk.old) out.old out.new }
 {
     put_answer(out, sound(walk.network()));

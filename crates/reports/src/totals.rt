@@ -18,7 +18,7 @@ fn total_of<K: WeightKind>(links: &[Link<K>], row: &[u16]) -> Option<K::Total>
 
 /// The total of each of so many rows, where the walk is on a row if there is one.
 pub(crate) fn total_each<K: WeightKind>(walk: &Walk<K>, count: u32) -> Option<K::Total>
-    ensures { EachOf walk.now count result }
+    ensures { EachOf K.WeightKind.weighing K.WeightKind.sum walk.now count result }
 {
     if count == 0 {
         return None;

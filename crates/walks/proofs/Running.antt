@@ -3,18 +3,18 @@ use Rattle.std.proofs.Common.{◌≡◌, ℕ, ◌+◌, ◌<◌, List, [], ◌∷
 use mathlib.Core.List.{map-append}
 use Rattle.std.proofs.lemmas.List.{drop-drop, take_all, take_more, take_more_set, drop-set-lt, get_or-drop, length-drop}
 use Rattle.forests.specs.Graphs.{SitesJoined}
-use Rattle.weights.specs.Scales.{Lawful}
-use Rattle.weights.specs.declared.kinds.WeightKind.{Ghosts}
+use Rattle.weights.specs.Scales.{Lawful, Weighing}
 use Rattle.networks.specs.Networks.{network_graph, weights_of}
 use Rattle.networks.specs.declared.networks.Network.{Network}
 use Rattle.receivers.specs.Rules.{Rule}
+use Rattle.walks.specs.Acts.{Stays}
 use Rattle.walks.specs.Calls.{call_of}
 use Rattle.walks.specs.Events.{Event, latest}
 use Rattle.walks.specs.Promises.{Performs, Performed}
 use Rattle.walks.specs.Runs.{Kept}
 use Rattle.walks.specs.Steps.{Step}
 use Rattle.walks.specs.Turns.{asked_by, heard_from, asked, heard, left_by, heard_of, Told}
-use Rattle.walks.specs.Walks.{network_of, place_of, row_size, Listed}
+use Rattle.walks.specs.Walks.{network_of, place_of, row_size, Listed, Begun}
 use Rattle.walks.specs.declared.turns.Turn.{Turn}
 use Rattle.walks.specs.declared.walks.Walk.{Walk}
 use Rattle.cheapest.proofs.Theorems.{one_list}
@@ -24,10 +24,11 @@ use Rattle.walks.proofs.Runs.{kept_none, kept_push}
 
 -- After the first i turns of `turns₀`, now `turns`, the walk that began as walk₀ is `walk`, and the receiver, which
 -- held `held₀`, holds `held`.
-pub record Ran {K T : Type 0} {kind : Ghosts K T} (walk₀ walk : Walk K T kind) (rule : Rule) (held₀ held : List ℕ) (turns₀ turns : List Turn) (i : ℕ) : Type 0 where
+pub record Ran {K : Type 0} (kind : Weighing K) (walk₀ walk : Walk K) (rule : Rule) (held₀ held : List ℕ) (turns₀ turns : List Turn) (i : ℕ) : Type 0 where
   pub network : network_of walk ≡ network_of walk₀
+  pub begun : Begun kind walk
   pub rest : drop i turns ≡ drop i turns₀
-  pub so_far : (L : List (List ℕ)) → Listed kind.weighing (network_of walk₀) L
+  pub so_far : (L : List (List ℕ)) → Listed kind (network_of walk₀) L
       → (events : List Event) × Told events (take i turns₀) (take i turns)
       × Kept L (row_size (network_of walk₀)) (SitesJoined (network_graph (network_of walk₀))) rule held₀ events held × (place_of walk ≡ latest events)
 
@@ -52,25 +53,27 @@ told_more events e turns₀ turns i d t inside rest a l h told =
           ∙ ap (λ x. map heard_of events ++ (x ∷ [])) h ∙ sym (map-append heard_of events (e ∷ []));
     }
 
-module _ {K T : Type 0} {kind : Ghosts K T} (laws : Lawful kind.weighing.scale) (walk₀ : Walk K T kind) (rule : Rule) (held₀ : List ℕ) (turns₀ : List Turn) where
-  pub ran_none : place_of walk₀ ≡ None → Ran walk₀ walk₀ rule held₀ held₀ turns₀ turns₀ 0
-  ran_none before = record {
+module _ {K : Type 0} (kind : Weighing K) (laws : Lawful kind.scale) (walk₀ : Walk K) (rule : Rule) (held₀ : List ℕ) (turns₀ : List Turn) where
+  pub ran_none : Begun kind walk₀ → place_of walk₀ ≡ None → Ran kind walk₀ walk₀ rule held₀ held₀ turns₀ turns₀ 0
+  ran_none begun before = record {
     network = refl;
+    begun = begun;
     rest = refl;
     so_far = λ L full. ([], record { asks = refl; leaves = refl; hears = refl }, kept_none L (row_size (network_of walk₀)) (SitesJoined (network_graph (network_of walk₀))) rule held₀, before);
   }
 
-  pub ran_more : (walk walk' : Walk K T kind) (rule' : Rule) (held held' : List ℕ) (turns : List Turn) (i : ℕ) (d t : Turn) → i < length turns
-      → Ran walk₀ walk rule held₀ held turns₀ turns i → rule' ≡ rule
-      → Performs walk walk' rule' held held' (asked_by (get_or turns i d).call) (asked_by t.call) (heard_from t.answer)
-      → network_of walk' ≡ network_of walk → Ran walk₀ walk' rule held₀ held' turns₀ (set turns i t) (i + 1)
+  pub ran_more : (walk walk' : Walk K) (rule' : Rule) (held held' : List ℕ) (turns : List Turn) (i : ℕ) (d t : Turn) → i < length turns
+      → Ran kind walk₀ walk rule held₀ held turns₀ turns i → rule' ≡ rule
+      → Performs kind walk walk' rule' held held' (asked_by (get_or turns i d).call) (asked_by t.call) (heard_from t.answer)
+      → Stays kind walk walk' → Ran kind walk₀ walk' rule held₀ held' turns₀ (set turns i t) (i + 1)
   ran_more walk walk' rule' held held' turns i d t inside ran same performs stays = record {
-    network = stays ∙ ran.network;
+    network = stays.network ∙ ran.network;
+    begun = stays.begun ran.begun;
     rest = drop-set-lt (i + 1) turns i t (omega arith)
         ∙ (sym (drop-drop 1 i turns) ∙ ap (drop 1) ran.rest ∙ drop-drop 1 i turns₀);
     so_far = λ L full.
         let (events, told, kept, place) = ran.so_far L full in
-        let (e, a, l, h, step) = performs L (subst (λ (n : Network K). Listed kind.weighing n L) (sym ran.network) full) in
+        let (e, a, l, h, step) = performs ran.begun L (subst (λ (n : Network K). Listed kind n L) (sym ran.network) full) in
         let step₀ : Step L (row_size (network_of walk₀)) (SitesJoined (network_graph (network_of walk₀))) rule (latest events) held e (place_of walk') held' =
         subst (λ (o : Option (List ℕ)). Step L (row_size (network_of walk₀)) (SitesJoined (network_graph (network_of walk₀))) rule o held e (place_of walk') held') place
         (subst (λ (ρ : Rule). Step L (row_size (network_of walk₀)) (SitesJoined (network_graph (network_of walk₀))) ρ (place_of walk) held e (place_of walk') held') same
@@ -80,10 +83,10 @@ module _ {K T : Type 0} {kind : Ghosts K T} (laws : Lawful kind.weighing.scale) 
   }
 
   -- The full list exists, and all turns were performed.
-  pub ran_all : (walk : Walk K T kind) (held : List ℕ) (turns : List Turn) → length turns ≡ length turns₀
-      → Ran walk₀ walk rule held₀ held turns₀ turns (length turns₀) → Performed (network_of walk₀) walk rule held₀ held turns₀ turns
+  pub ran_all : (walk : Walk K) (held : List ℕ) (turns : List Turn) → length turns ≡ length turns₀
+      → Ran kind walk₀ walk rule held₀ held turns₀ turns (length turns₀) → Performed kind (network_of walk₀) walk rule held₀ held turns₀ turns
   ran_all walk held turns same ran =
-      let list = one_list kind.weighing.scale laws (network_graph (network_of walk₀)) (graph_fits laws walk₀) (weights_of kind.weighing (network_of walk₀)) in
+      let list = one_list kind.scale laws (network_graph (network_of walk₀)) (graph_fits walk₀) (weights_of kind (network_of walk₀)) in
       let (events, told, kept, place) = ran.so_far list.0 list.1 in
       record {
         promised = record {
@@ -95,4 +98,5 @@ module _ {K T : Type 0} {kind : Ghosts K T} (laws : Lawful kind.weighing.scale) 
         };
         network = ran.network;
         place = place;
+        begun = ran.begun;
       }

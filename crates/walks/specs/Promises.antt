@@ -2,7 +2,6 @@
 use Rattle.std.specs.Prelude.{◌≡◌, ℕ, List, length}
 use Rattle.forests.specs.Graphs.{SitesJoined}
 use Rattle.weights.specs.Scales.{Weighing}
-use Rattle.weights.specs.declared.kinds.WeightKind.{Ghosts}
 use Rattle.cheapest.specs.Ranks.{Alike}
 use Rattle.networks.specs.Links.{from_of, to_of}
 use Rattle.networks.specs.Networks.{sites_of, links_of, closed_in, network_graph, weights_of}
@@ -13,14 +12,14 @@ use Rattle.walks.specs.Events.{Event, latest}
 use Rattle.walks.specs.Runs.{Kept}
 use Rattle.walks.specs.Steps.{Step}
 use Rattle.walks.specs.Turns.{Heard, heard_of, left_by, asked, heard, Told}
-use Rattle.walks.specs.Walks.{network_of, place_of, row_size, Listed}
+use Rattle.walks.specs.Walks.{network_of, place_of, row_size, Listed, Begun}
 use Rattle.walks.specs.declared.turns.Turn.{Turn}
 use Rattle.walks.specs.declared.walks.Walk.{Walk}
 
 -- One call on a walk is an event: the call asked what the event asks, was passed back what it leaves, and heard
 -- what is heard of it; and by the law of single calls it leads the walk and the receiver on.
-abbrev pub Performs : {K T : Type 0} {kind : Ghosts K T} → Walk K T kind → Walk K T kind → Rule → List ℕ → List ℕ → Asked → Asked → Heard → Type 0
-Performs {kind = kind} before after rule held held' ask left hear = (L : List (List ℕ)) → Listed kind.weighing (network_of before) L
+abbrev pub Performs : {K : Type 0} → Weighing K → Walk K → Walk K → Rule → List ℕ → List ℕ → Asked → Asked → Heard → Type 0
+Performs kind before after rule held held' ask left hear = Begun kind before → (L : List (List ℕ)) → Listed kind (network_of before) L
     → (e : Event) × (ask ≡ call_of e) × (left ≡ left_by e) × (hear ≡ heard_of e)
     × Step L (row_size (network_of before)) (SitesJoined (network_graph (network_of before))) rule (place_of before) held e (place_of after) held'
 
@@ -34,10 +33,11 @@ pub record Promised {K : Type 0} (kind : Weighing K) (n : Network K) (rule : Rul
   pub kept : Kept full (row_size n) (SitesJoined (network_graph n)) rule held events held'
 
 -- The promise is kept, and the walk that is handed over holds the network and is on the latest row given or sought.
-pub record Performed {K T : Type 0} {kind : Ghosts K T} (n : Network K) (walk : Walk K T kind) (rule : Rule) (held held' : List ℕ) (before after : List Turn) : Type 0 where
-  pub promised : Promised kind.weighing n rule held held' before after
+pub record Performed {K : Type 0} (kind : Weighing K) (n : Network K) (walk : Walk K) (rule : Rule) (held held' : List ℕ) (before after : List Turn) : Type 0 where
+  pub promised : Promised kind n rule held held' before after
   pub network : network_of walk ≡ n
   pub place : place_of walk ≡ latest promised.events
+  pub begun : Begun kind walk
 
 -- Two networks, of whatever kinds, have the same links: sites and ends agree number by number, and the same
 -- links are closed.

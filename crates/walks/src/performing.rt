@@ -2,9 +2,10 @@
 
 ghost use Rattle.std.specs.Prelude.{◌≡◌, None, Some};
 ghost use Rattle.receivers.specs.Rules.{Serves};
+ghost use Rattle.walks.specs.Acts.{Stays};
 ghost use Rattle.walks.specs.Promises.{Performs, Performed, SameLinks, WeighAlike, SameRun};
 ghost use Rattle.walks.specs.Turns.{asked_by, asked, heard_from};
-ghost use Rattle.walks.specs.Walks.{network_of, place_of};
+ghost use Rattle.walks.specs.Walks.{network_of, place_of, Begun};
 
 use crate::turns::{Answer, Call, Reply, Turn};
 use crate::walks::Walk;
@@ -14,8 +15,8 @@ use weights::WeightKind;
 
 /// Performs one call.
 fn act<K: WeightKind, R: Receiver>(walk: &mut Walk<K>, receiver: &mut R, call: &mut Call) -> Answer
-    ensures performs { Performs walk.old walk.new (R.Receiver.rule receiver.old) (R.Receiver.held receiver.old) (R.Receiver.held receiver.new) (asked_by call.old) (asked_by call.new) (heard_from (Some result)) }
-    ensures stays { network_of walk.new ≡ network_of walk.old }
+    ensures performs { Performs K.WeightKind.weighing walk.old walk.new (R.Receiver.rule receiver.old) (R.Receiver.held receiver.old) (R.Receiver.held receiver.new) (asked_by call.old) (asked_by call.new) (heard_from (Some result)) }
+    ensures stays { Stays K.WeightKind.weighing walk.old walk.new }
     ensures serves { Serves R.Receiver.rule R.Receiver.spare R.Receiver.lender receiver.old receiver.new }
 {
     match call {
@@ -30,8 +31,9 @@ fn act<K: WeightKind, R: Receiver>(walk: &mut Walk<K>, receiver: &mut R, call: &
 
 /// Performs the calls of all turns, in their order, on a walk just begun.
 fn act_all<K: WeightKind, R: Receiver>(walk: &mut Walk<K>, receiver: &mut R, turns: &mut [Turn])
+    requires begun { Begun K.WeightKind.weighing walk.old }
     requires before { place_of walk.old ≡ None }
-    ensures promise { Performed (network_of walk.old) walk.new (R.Receiver.rule receiver.old) (R.Receiver.held receiver.old) (R.Receiver.held receiver.new) turns.old turns.new }
+    ensures promise { Performed K.WeightKind.weighing (network_of walk.old) walk.new (R.Receiver.rule receiver.old) (R.Receiver.held receiver.old) (R.Receiver.held receiver.new) turns.old turns.new }
     ensures serves { Serves R.Receiver.rule R.Receiver.spare R.Receiver.lender receiver.old receiver.new }
 {
     for turn in turns.iter_mut() {
@@ -46,7 +48,7 @@ pub fn perform<K: WeightKind, R: Receiver>(
     receiver: &mut R,
     turns: &mut [Turn],
 ) -> Walk<K>
-    ensures promise { Performed network result (R.Receiver.rule receiver.old) (R.Receiver.held receiver.old) (R.Receiver.held receiver.new) turns.old turns.new }
+    ensures promise { Performed K.WeightKind.weighing network result (R.Receiver.rule receiver.old) (R.Receiver.held receiver.old) (R.Receiver.held receiver.new) turns.old turns.new }
     ensures serves { Serves R.Receiver.rule R.Receiver.spare R.Receiver.lender receiver.old receiver.new }
 {
     let mut walk = Walk::begin(network);
@@ -66,8 +68,8 @@ pub fn perform_both<K: WeightKind, M: WeightKind, R: Receiver, S: Receiver>(
     others: &mut [Turn],
 ) -> (Walk<K>, Walk<M>)
     ensures alike { SameLinks first second → WeighAlike K.WeightKind.weighing M.WeightKind.weighing first second → R.Receiver.rule receiver.old ≡ S.Receiver.rule other.old → R.Receiver.held receiver.old ≡ S.Receiver.held other.old → asked turns.old ≡ asked others.old → SameRun turns.new others.new (R.Receiver.held receiver.new) (S.Receiver.held other.new) }
-    ensures promise { Performed first result.0 (R.Receiver.rule receiver.old) (R.Receiver.held receiver.old) (R.Receiver.held receiver.new) turns.old turns.new }
-    ensures others { Performed second result.1 (S.Receiver.rule other.old) (S.Receiver.held other.old) (S.Receiver.held other.new) others.old others.new }
+    ensures promise { Performed K.WeightKind.weighing first result.0 (R.Receiver.rule receiver.old) (R.Receiver.held receiver.old) (R.Receiver.held receiver.new) turns.old turns.new }
+    ensures others { Performed M.WeightKind.weighing second result.1 (S.Receiver.rule other.old) (S.Receiver.held other.old) (S.Receiver.held other.new) others.old others.new }
     ensures serves { Serves R.Receiver.rule R.Receiver.spare R.Receiver.lender receiver.old receiver.new }
     ensures serves2 { Serves S.Receiver.rule S.Receiver.spare S.Receiver.lender other.old other.new }
 {

@@ -6,7 +6,7 @@ ghost use Rattle.networks.specs.Networks.{network_graph, weights_of};
 ghost use Rattle.networks.specs.Refusals.{refusal_of};
 ghost use Rattle.cheapest.specs.Positions.{is_on};
 ghost use Rattle.walks.specs.Substitutes.{Answers, AskedFor};
-ghost use Rattle.walks.specs.Walks.{network_of, place_in, place_of, row_at};
+ghost use Rattle.walks.specs.Walks.{network_of, place_in, place_of, row_at, Begun};
 
 use crate::walks::Walk;
 use cheapest::Rows;
@@ -33,7 +33,7 @@ impl<K: WeightKind> Walk<K> {
     fn stand_in(&self, link: u16) -> Option<u16>
         requires on { is_on self.now.rows ≡ true }
         requires inside { In link (row_at (place_of self.now)) }
-        ensures { Answers (network_graph (network_of self.now)) K.WeightKind.weighing.scale (weights_of K.WeightKind.weighing (network_of self.now)) (row_at (place_of self.now)) link result }
+        ensures { Begun K.WeightKind.weighing self.now → Answers (network_graph (network_of self.now)) K.WeightKind.weighing.scale (weights_of K.WeightKind.weighing (network_of self.now)) (row_at (place_of self.now)) link result }
     {
         self.rows.substitute(link)
     }
@@ -42,7 +42,7 @@ impl<K: WeightKind> Walk<K> {
     /// cheapest tree; or none if there is no such link. The cost is one run over the links.
     pub fn substitute(&self, link: u16) -> Result<Option<u16>, Refusal>
         ensures refuses { AskedFor (place_of self.now) link (refusal_of result) }
-        ensures answers { IfOk result (λ answer. Answers (network_graph (network_of self.now)) K.WeightKind.weighing.scale (weights_of K.WeightKind.weighing (network_of self.now)) (row_at (place_of self.now)) link answer) }
+        ensures answers { IfOk result (λ answer. Begun K.WeightKind.weighing self.now → Answers (network_graph (network_of self.now)) K.WeightKind.weighing.scale (weights_of K.WeightKind.weighing (network_of self.now)) (row_at (place_of self.now)) link answer) }
     {
         check_link(&self.rows, link)?;
         Ok(self.stand_in(link))

@@ -3,8 +3,8 @@
 ghost use Rattle.std.specs.Prelude.{◌≡◌, None};
 ghost use Rattle.networks.specs.Refusals.{refusal_of};
 ghost use Rattle.receivers.specs.Rules.{Serves};
-ghost use Rattle.walks.specs.Acts.{NextActs, SeekActs, PourActs};
-ghost use Rattle.walks.specs.Walks.{network_of, place_of, row_at, OneList};
+ghost use Rattle.walks.specs.Acts.{Stays, NextActs, SeekActs, PourActs};
+ghost use Rattle.walks.specs.Walks.{network_of, place_of, row_at, Begun, OneList};
 
 use crate::pouring::pour_rows;
 use crate::stepping::{next_row, seek_row};
@@ -20,6 +20,7 @@ impl<K: WeightKind> Walk<K> {
     pub fn begin(network: Network<K>) -> Walk<K>
         ensures network { network_of result ≡ network }
         ensures before { place_of result ≡ None }
+        ensures begun { Begun K.WeightKind.weighing result }
         ensures listed { OneList K.WeightKind.weighing network }
     {
         let rows = Rows::new(network.plan());
@@ -52,8 +53,8 @@ impl<K: WeightKind> Walk<K> {
     /// stays as it is. A refusal alters neither walk nor list. The cost is one run over the links for each
     /// place that is tried, and does not grow with the rows given before.
     pub fn next(&mut self, list: &mut [u16]) -> Result<(), Refusal>
-        ensures acts { NextActs self.old self.new list.old list.new (refusal_of result) }
-        ensures stays { network_of self.new ≡ network_of self.old }
+        ensures acts { NextActs K.WeightKind.weighing self.old self.new list.old list.new (refusal_of result) }
+        ensures stays { Stays K.WeightKind.weighing self.old self.new }
     {
         let places = list.len();
         if places < self.network.sites() as usize - 1 {
@@ -64,8 +65,8 @@ impl<K: WeightKind> Walk<K> {
 
     /// Moves to the row, if it is in the full list; a refusal leaves the walk where it is.
     pub fn seek(&mut self, row: &[u16]) -> Result<(), Refusal>
-        ensures acts { SeekActs self.old self.new row.now (refusal_of result) }
-        ensures stays { network_of self.new ≡ network_of self.old }
+        ensures acts { SeekActs K.WeightKind.weighing self.old self.new row.now (refusal_of result) }
+        ensures stays { Stays K.WeightKind.weighing self.old self.new }
     {
         seek_row(&mut self.rows, row)
     }
@@ -75,8 +76,8 @@ impl<K: WeightKind> Walk<K> {
     /// tried in this order: `L`, so many rows were taken; `Z`, the sites are not joined; `X`, no row follows; `F`,
     /// the receiver does not take the row.
     pub fn pour<R: Receiver>(&mut self, receiver: &mut R, limit: u32) -> (u32, char)
-        ensures acts { PourActs self.old self.new (R.Receiver.rule receiver.old) (R.Receiver.held receiver.old) limit result.0 result.1 (R.Receiver.held receiver.new) }
-        ensures stays { network_of self.new ≡ network_of self.old }
+        ensures acts { PourActs K.WeightKind.weighing self.old self.new (R.Receiver.rule receiver.old) (R.Receiver.held receiver.old) limit result.0 result.1 (R.Receiver.held receiver.new) }
+        ensures stays { Stays K.WeightKind.weighing self.old self.new }
         ensures serves { Serves R.Receiver.rule R.Receiver.spare R.Receiver.lender receiver.old receiver.new }
     {
         self.pour_into(receiver, limit)
@@ -85,8 +86,8 @@ impl<K: WeightKind> Walk<K> {
     /// Pours, and says how it ended as `pour` does.
     // Apart from `pour`, so that a wrong call there is refused for what `pour` promises.
     fn pour_into<R: Receiver>(&mut self, receiver: &mut R, limit: u32) -> (u32, char)
-        ensures acts { PourActs self.old self.new (R.Receiver.rule receiver.old) (R.Receiver.held receiver.old) limit result.0 result.1 (R.Receiver.held receiver.new) }
-        ensures stays { network_of self.new ≡ network_of self.old }
+        ensures acts { PourActs K.WeightKind.weighing self.old self.new (R.Receiver.rule receiver.old) (R.Receiver.held receiver.old) limit result.0 result.1 (R.Receiver.held receiver.new) }
+        ensures stays { Stays K.WeightKind.weighing self.old self.new }
         ensures serves { Serves R.Receiver.rule R.Receiver.spare R.Receiver.lender receiver.old receiver.new }
     {
         // A pair of a count and a letter, and no struct: a form that the product is to have.

@@ -22,5 +22,5 @@ returns c =
     (λ full. (
       here,
       subst (λ (from : Option (List ℕ)). PourDoes L (SitesJoined (network_graph c.begin-walk.result.network)) tallying from held 4294967295 c.pour.result.0 c.pour.result.1 here held') begun.before
-          (c.pour.ensures.acts L full),
+          (c.pour.ensures.acts begun.begun L full),
     ))

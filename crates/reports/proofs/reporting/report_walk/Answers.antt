@@ -15,5 +15,5 @@ returns g c =
     let each = c.total_each-total in
     let first = subst (λ (a : Result Contents Refusal). PutOut took o (line_of_answer a ++ (10 ∷ [])) c.put_answer.new.out) c.sound.ensures c.put_answer.ensures in
     let begins = subst (λ (n : Contents). PutOut took o (sound_line n.sites n.links ++ (10 ∷ [])) c.put_answer.new.out) (ap counts_of c.network.ensures) first in
-    report_of g.met.K.WeightKind.lawful g.K.Shown.text before listed.new.walk took o c.put_answer.new.out listed.new.out c.put_last.new.out
+    report_of g.K.WeightKind.weighing g.K.WeightKind.sum g.met.K.WeightKind.lawful g.K.Shown.text before listed.new.walk took o c.put_answer.new.out listed.new.out c.put_last.new.out
     listed.result.0 listed.result.1 each.result listed.ensures.network listed.ensures.lists each.ensures begins c.put_last.ensures

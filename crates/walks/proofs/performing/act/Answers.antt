@@ -9,7 +9,7 @@ use Rattle.walks.proofs.Performed.{take_front, next_event, seek_event, pour_even
 use Rattle.walks.proofs.performing.act.Goals as goal
 
 pub returns-in-Next-clause-performs : goal.returns-in-Next-clause-performs
-returns-in-Next-clause-performs g c L full =
+returns-in-Next-clause-performs g c begun L full =
     let ρ = g.R.Receiver in
     let walk = c.args.walk.now in
     let r = c.args.receiver.now in
@@ -22,10 +22,10 @@ returns-in-Next-clause-performs g c L full =
     (ap asked_by c.in-Next.is ∙ ap (λ (xs : List ℕ). next xs) (sym same))
     (ap (λ (xs : List ℕ). next xs) (take_front n.new.list _ c.in-Next.list.len (n.auto.list ∙ c.deref_mut.ensures.len)))
     (heard_done n.result c.map.result (search rules))
-    (next_event L size J (ρ.rule r) (place_of walk) (ρ.held r) list n.new.list (refusal_of n.result) (place_of n.new.self) (n.ensures.acts L full))
+    (next_event L size J (ρ.rule r) (place_of walk) (ρ.held r) list n.new.list (refusal_of n.result) (place_of n.new.self) (n.ensures.acts begun L full))
 
 pub returns-in-Pour-clause-performs : goal.returns-in-Pour-clause-performs
-returns-in-Pour-clause-performs g c L full =
+returns-in-Pour-clause-performs g c begun L full =
     let ρ = g.R.Receiver in
     let walk = c.args.walk.now in
     let r = c.args.receiver.now in
@@ -33,10 +33,10 @@ returns-in-Pour-clause-performs g c L full =
     let J = SitesJoined (network_graph walk.network) in
     let p = c.pour-count in
     event_as L size J (ρ.rule r) (place_of walk) (ρ.held r) (ap asked_by c.in-Pour.is) refl refl
-    (pour_event L size J (ρ.rule r) (place_of walk) (ρ.held r) c.in-Pour.limit p.result.0 p.result.1 (place_of p.new.self) (ρ.held p.new.receiver) (p.ensures.acts L full))
+    (pour_event L size J (ρ.rule r) (place_of walk) (ρ.held r) c.in-Pour.limit p.result.0 p.result.1 (place_of p.new.self) (ρ.held p.new.receiver) (p.ensures.acts begun L full))
 
 pub returns-in-Seek-clause-performs : goal.returns-in-Seek-clause-performs
-returns-in-Seek-clause-performs g c L full =
+returns-in-Seek-clause-performs g c begun L full =
     let ρ = g.R.Receiver in
     let walk = c.args.walk.now in
     let r = c.args.receiver.now in
@@ -46,4 +46,4 @@ returns-in-Seek-clause-performs g c L full =
     let same : c.deref.result.now ≡ vec_items c.in-Seek.row = c.deref.ensures.value in
     let row = ap (λ (xs : List ℕ). seek xs) (sym same) in
     event_as L size J (ρ.rule r) (place_of walk) (ρ.held r) (ap asked_by c.in-Seek.is ∙ row) row (heard_done s.result c.map-in-Seek.result (search rules))
-    (seek_event L size J (ρ.rule r) (place_of walk) (ρ.held r) c.deref.result.now (refusal_of s.result) (place_of s.new.self) (s.ensures.acts L full))
+    (seek_event L size J (ρ.rule r) (place_of walk) (ρ.held r) c.deref.result.now (refusal_of s.result) (place_of s.new.self) (s.ensures.acts begun L full))

@@ -8,7 +8,7 @@ pub loop-turn-init : goal.loop-turn-init
 loop-turn-init g c =
     let ρ = g.R.Receiver in
     let r = c.args.receiver.now in
-    (ran_none g.met.K.WeightKind.lawful c.args.walk.now (ρ.rule r) (ρ.held r) c.args.turns.now c.requires.before, serves_same r)
+    (ran_none g.K.WeightKind.weighing g.met.K.WeightKind.lawful c.args.walk.now (ρ.rule r) (ρ.held r) c.args.turns.now c.requires.begun c.requires.before, serves_same r)
 
 pub loop-turn-preserved : goal.loop-turn-preserved
 loop-turn-preserved g c =
@@ -21,7 +21,7 @@ loop-turn-preserved g c =
     let turns = c.loop-turn.turns in
     let i = c.loop-turn.turn-index in
     let turn : Turn = record { call = c.act.new.call; answer = Some c.act.result } in (
-      ran_more g.met.K.WeightKind.lawful c.args.walk.now (ρ.rule r) (ρ.held r) c.args.turns.now c.loop-turn.walk c.act.new.walk (ρ.rule now)
+      ran_more g.K.WeightKind.weighing g.met.K.WeightKind.lawful c.args.walk.now (ρ.rule r) (ρ.held r) c.args.turns.now c.loop-turn.walk c.act.new.walk (ρ.rule now)
           (ρ.held now) (ρ.held next) turns i c.turn-item.result turn (let same = c.loop-turn.auto.turns in let left = c.loop-turn-test.true in omega arith) inv.0 inv.1.rule a.performs a.stays,
       serves_then inv.1 a.serves,
     )
@@ -31,6 +31,6 @@ returns-clause-promise g c =
     let ρ = g.R.Receiver in
     let r = c.args.receiver.now in
     let all : c.loop-turn.turn-index ≡ length c.args.turns.now = (let left = c.loop-turn-test.false in let most = c.loop-turn.auto.turn-index-end in omega arith) in
-    ran_all g.met.K.WeightKind.lawful c.args.walk.now (ρ.rule r) (ρ.held r) c.args.turns.now c.loop-turn.walk (ρ.held c.loop-turn.receiver) c.loop-turn.turns
+    ran_all g.K.WeightKind.weighing g.met.K.WeightKind.lawful c.args.walk.now (ρ.rule r) (ρ.held r) c.args.turns.now c.loop-turn.walk (ρ.held c.loop-turn.receiver) c.loop-turn.turns
     c.loop-turn.auto.turns
-    (subst (Ran c.args.walk.now c.loop-turn.walk (ρ.rule r) (ρ.held r) (ρ.held c.loop-turn.receiver) c.args.turns.now c.loop-turn.turns) all c.loop-turn.invariant.0)
+    (subst (Ran g.K.WeightKind.weighing c.args.walk.now c.loop-turn.walk (ρ.rule r) (ρ.held r) (ρ.held c.loop-turn.receiver) c.args.turns.now c.loop-turn.turns) all c.loop-turn.invariant.0)

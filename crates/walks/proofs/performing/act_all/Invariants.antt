@@ -7,5 +7,5 @@ invariant-loop-turn g l =
     let ρ = g.R.Receiver in
     let was = l.initial.receiver in
     let is = l.receiver in
-    Ran l.initial.walk l.walk (ρ.rule was) (ρ.held was) (ρ.held is) l.initial.turns l.turns l.turn-index
+    Ran g.K.WeightKind.weighing l.initial.walk l.walk (ρ.rule was) (ρ.held was) (ρ.held is) l.initial.turns l.turns l.turn-index
     × Serves ρ.rule ρ.spare ρ.lender was is

@@ -2,4 +2,4 @@ use Rattle.walks.proofs.FromPlans.{listed_by}
 use Rattle.walks.proofs.walks.Walk.seek.Goals as goal
 
 pub returns-clause-acts : goal.returns-clause-acts
-returns-clause-acts g c = λ L full. c.seek_row.ensures.does L (listed_by g.met.K.WeightKind.lawful c.args.self.now L full)
+returns-clause-acts g c = λ begun L full. c.seek_row.ensures.does L (listed_by g.K.WeightKind.weighing g.met.K.WeightKind.lawful c.args.self.now begun L full)
