@@ -1,8 +1,8 @@
 //! Links that stand in for a link of the row.
 
-ghost use Rattle.std.specs.Prelude.{◌≡◌, ℕ, ◌<◌, length, take, Decides, MatchOption, ◌≢◌, slice_index};
+ghost use Rattle.std.specs.Prelude.{◌≡◌, ℕ, ◌<◌, true, length, take, Decides, MatchOption, ◌≢◌, slice_index};
 ghost use Rattle.forests.specs.Lists.{In};
-ghost use Rattle.cheapest.specs.Positions.{plan_of, row_of};
+ghost use Rattle.cheapest.specs.Positions.{plan_of, is_on, row_of};
 ghost use Rattle.cheapest.specs.Runs.{FrontsIn, CrossesIn};
 ghost use Rattle.cheapest.specs.StandIns.{StandsIn, FirstStandIn};
 
@@ -42,9 +42,20 @@ impl Walk {
 }
 
 impl Rows {
-    /// The link of lowest rank that stands in for this link of the row that the walk is on, if there is one:
-    /// the first candidate of the link's class that closes no ring with the rest of the row.
+    /// The link of lowest rank that stands in for this link of the row that the walk is on, if there is one.
     pub fn substitute(&self, link: u16) -> Option<u16>
+        ensures { MatchOption result ((f : ℕ) → In link (row_of self.now) → StandsIn (plan_of self.now) (row_of self.now) link f → ⊥) (λ f. FirstStandIn (plan_of self.now) (row_of self.now) link f) }
+    {
+        if !self.on {
+            return None;
+        }
+        self.stand_in(link)
+    }
+
+    /// The same for a walk that is on a row: the first candidate of the link's class that closes no ring
+    /// with the rest of the row.
+    fn stand_in(&self, link: u16) -> Option<u16>
+        requires { is_on self.now ≡ true }
         ensures { MatchOption result ((f : ℕ) → In link (row_of self.now) → StandsIn (plan_of self.now) (row_of self.now) link f → ⊥) (λ f. FirstStandIn (plan_of self.now) (row_of self.now) link f) }
     {
         let row = self.row();

@@ -2,7 +2,7 @@ use Rattle.std.proofs.Common.{◌∙◌}
 use Rattle.forests.proofs.Members.{place}
 use Rattle.cheapest.specs.Positions.{row_of}
 use Rattle.cheapest.proofs.Exchanges.{row_place, rest_fronts, none_stands, first_stands}
-use Rattle.cheapest.proofs.enumeration.Rows.substitute.Goals as goal
+use Rattle.cheapest.proofs.enumeration.Rows.stand_in.Goals as goal
 
 pub returns-in_err-q : goal.returns-in_err-q
 returns-in_err-q c = rw c.from_residual.ensures (λ f m s.
