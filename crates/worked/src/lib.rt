@@ -5,6 +5,7 @@
 
 #![tactic(auto)]
 
+mod holding;
 pub mod opened;
 
 ghost use Rattle.worked.specs.WorkedExamples.{WorkedExamples};

@@ -18,4 +18,4 @@ returns-clause-acts g c =
     subst (λ (letter : ℕ). PourDoes L (SitesJoined (network_graph walk.network)) (ρ.rule r) (place_in walk.rows) (ρ.held r) c.args.limit poured.result.0 letter (place_in poured.new.rows) (ρ.held r'))
     (sym c.letter.ensures)
     (subst (λ (h : Graph). PourDoes L (SitesJoined h) (ρ.rule r) (place_in walk.rows) (ρ.held r) c.args.limit poured.result.0 (letter_of poured.result.1) (place_in poured.new.rows) (ρ.held r'))
-    walk.graph (poured.ensures.does L (listed_by g.K.WeightKind.weighing g.met.K.WeightKind.lawful walk begun L full)))
+    walk.graph (poured.ensures.does L (listed_by walk g.K.WeightKind.weighing g.met.K.WeightKind.lawful begun L full)))
