@@ -41,8 +41,9 @@ impl Measure for Crossings {
     }
 }
 
-// Not one implementation for every measure: that would fit a pair too, as far as the check can tell, and then no walk
-// through a network of pairs could be proved. What is more than a line is written once, for totals.
+// Not one implementation for every measure: that would fit a pair too, as far as the check can tell, and then no type
+// of a caller whose ghost fields speak of its kind could be proved for pairs. What is more than a line is written once,
+// for totals.
 impl WeightKind for Crossings {
     ghost weighing = { by_crossings };
 
