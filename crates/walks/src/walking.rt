@@ -68,6 +68,15 @@ impl<K: WeightKind> Walk<K> {
         ensures acts { SeekActs K.WeightKind.weighing self.old self.new row.now (refusal_of result) }
         ensures stays { Stays K.WeightKind.weighing self.old self.new }
     {
+        self.move_to(row)
+    }
+
+    /// Moves as `seek` does.
+    // Apart from `seek`, so that a wrong call there is refused for what `seek` promises.
+    fn move_to(&mut self, row: &[u16]) -> Result<(), Refusal>
+        ensures acts { SeekActs K.WeightKind.weighing self.old self.new row.now (refusal_of result) }
+        ensures stays { Stays K.WeightKind.weighing self.old self.new }
+    {
         seek_row(&mut self.rows, row)
     }
 
