@@ -48,7 +48,7 @@ pub record OneList {K : Type 0} (kind : Weighing K) (n : Network K) : Type 0 whe
   pub listed : Listed kind n full
   pub only : (L : List (List ℕ)) → Listed kind n L → L ≡ full
 
--- The walk was begun on its network: it compares links as the network's weights do. Begin gives this and
--- every call keeps it, so it holds of every walk.
+-- The walk was begun on its network: it compares links as the network's weights do (that it goes through the
+-- network's graph is in its type). Begin gives this and every call keeps it, so it holds of every walk.
 pub record Begun {K : Type 0} (kind : Weighing K) (walk : Walk K) : Type 0 where
   pub alike : Alike numbers kind.scale (mark_of (plan_of walk.rows)) (weights_of kind (network_of walk)) (length (links_of (network_of walk)))
